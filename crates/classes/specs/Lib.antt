@@ -1,0 +1,5 @@
+pub mod Letters
+pub mod Reduced
+pub mod Words
+pub mod Strikes
+pub mod Sides

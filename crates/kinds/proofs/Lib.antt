@@ -1,0 +1,4 @@
+pub mod Options
+pub mod Maps
+pub mod Lexes
+pub mod Products
