@@ -3,3 +3,4 @@ pub mod Stored
 pub mod Inverses
 pub mod Joins
 pub mod Spelled
+pub mod Parities

@@ -5,6 +5,7 @@
 --     odd n            whether n is odd
 --     stored xs        the parities that a list of seven bits means
 --     Tells xs f       f has for each ray whether xs crosses it an odd number of times
+--     bitOf b          1 for true, 0 for false
 --     digestOf f       the hash of parities: their bits as a number, ray 1 the lowest
 use mathlib.Core.Path.{_≡_, refl, sym, ap, _∙_}
 use mathlib.Core.Bool.{Bool, true, false, not, cond}
@@ -80,11 +81,14 @@ sides = record {
   held-inv = λ f h. tt;
 }
 
+abbrev pub bitOf : Bool → ℕ
+bitOf b = cond b 1 0
+
 abbrev pub crossings : Ray → List Crossing → ℕ
 crossings r [] = 0
 crossings r (cross.None ∷ xs) = crossings r xs
-crossings r (cross.Forwards s ∷ xs) = cond (same r s) 1 0 + crossings r xs
-crossings r (cross.Backwards s ∷ xs) = cond (same r s) 1 0 + crossings r xs
+crossings r (cross.Forwards s ∷ xs) = bitOf (same r s) + crossings r xs
+crossings r (cross.Backwards s ∷ xs) = bitOf (same r s) + crossings r xs
 
 abbrev pub odd : ℕ → Bool
 odd n = eqb (n % 2) 1
@@ -96,8 +100,4 @@ abbrev pub stored : List Bool → Parities
 stored xs = λ r. getD xs (numbered r - 1) false
 
 abbrev pub digestOf : Parities → ℕ
-digestOf f = binary (map f rays)
-  where
-    abbrev binary : List Bool → ℕ
-    binary [] = 0
-    binary (b ∷ bs) = cond b 1 0 + 2 * binary bs
+digestOf f = bitOf (f One) + 2 * bitOf (f Two) + 4 * bitOf (f Three) + 8 * bitOf (f Four) + 16 * bitOf (f Five) + 32 * bitOf (f Six) + 64 * bitOf (f Seven)

@@ -3,4 +3,5 @@ pub mod letters;
 pub mod naming;
 pub mod sides;
 pub mod spelling;
+pub mod symbols;
 pub mod words;

@@ -1,9 +1,10 @@
 // Sides: for each ray, whether it was crossed an odd number of times.
 ghost use mathlib.Core.Path.{_≡_};
 ghost use mathlib.Core.Bool.{not};
-ghost use Prim.Native.Nat.{_-_};
+ghost use Prim.Native.Nat.{_-_, _≤_};
 ghost use Rattle.kinds.specs.Crossings.{numbered};
-ghost use Rattle.classes.specs.Sides.{sides, stored, digestOf};
+ghost use Rattle.kinds.specs.Classes.{crossed, product};
+ghost use Rattle.classes.specs.Sides.{sides, stored, bitOf, digestOf, Tells};
 use kinds::class::Class;
 use kinds::crossing::Crossing;
 use kinds::crossing::Ray;
@@ -29,6 +30,14 @@ fn flipped(odd: bool) -> bool
     !odd
 }
 
+// A bit as a number.
+fn bit(odd: bool) -> u32
+    ensures value { λ r. ⌜ r ≡ bitOf odd ⌝ }
+    ensures bound { λ r. ⌜ r ≤ 1 ⌝ }
+{
+    u32::from(odd)
+}
+
 impl Sides {
     // Whether a ray was crossed an odd number of times.
     pub fn is_odd(&self, ray: Ray) -> bool
@@ -37,8 +46,31 @@ impl Sides {
         self.odd[place(ray)]
     }
 
-    // One crossing more of a ray.
-    fn crossing(&self, ray: Ray) -> Sides
+    // The sides of a list of crossings, however long.
+    pub fn of(crossings: &[Crossing]) -> Sides
+        ensures product { λ r. ⌜ stored (r .odd) ≡ product sides (now (crossings .entry)) ⌝ }
+        ensures tells { λ r. ⌜ Tells (now (crossings .entry)) (stored (r .odd)) ⌝ }
+    {
+        let mut all = Sides { odd: [false; 7] };
+        for crossing in crossings {
+            all = all.crossed_by(*crossing);
+        }
+        all
+    }
+
+    // After one more crossing.
+    fn crossed_by(&self, crossing: Crossing) -> Sides
+        ensures { λ r. ⌜ stored (r .odd) ≡ sides .mul (stored (now (self .entry) .odd)) (crossed sides crossing) ⌝ }
+    {
+        match crossing {
+            Crossing::None => *self,
+            Crossing::Forwards(ray) => self.flipped_at(ray),
+            Crossing::Backwards(ray) => self.flipped_at(ray),
+        }
+    }
+
+    // After one more crossing of a ray.
+    fn flipped_at(&self, ray: Ray) -> Sides
         ensures { λ r. ⌜ stored (r .odd) ≡ sides .mul (stored (now (self .entry) .odd)) (sides .ray ray) ⌝ }
     {
         let mut odd = self.odd;
@@ -64,11 +96,7 @@ pub impl Class for Sides as SidesClass {
     }
 
     fn after(&self, crossing: Crossing) -> Option<Sides> {
-        match crossing {
-            Crossing::None => Some(*self),
-            Crossing::Forwards(ray) => Some(self.crossing(ray)),
-            Crossing::Backwards(ray) => Some(self.crossing(ray)),
-        }
+        Some(self.crossed_by(crossing))
     }
 
     fn compare(&self, other: &Sides) -> Ordering {
@@ -77,11 +105,13 @@ pub impl Class for Sides as SidesClass {
 
     fn digest(&self) -> u32 {
         let [one, two, three, four, five, six, seven] = self.odd;
-        let low = bit(one) + 2 * (bit(two) + 2 * (bit(three) + 2 * bit(four)));
-        low + 16 * (bit(five) + 2 * (bit(six) + 2 * bit(seven)))
+        bit(one)
+            + 2 * bit(two)
+            + 4 * bit(three)
+            + 8 * bit(four)
+            + 16 * bit(five)
+            + 32 * bit(six)
+            + 64 * bit(seven)
     }
 }
 
-fn bit(odd: bool) -> u32 {
-    u32::from(odd)
-}

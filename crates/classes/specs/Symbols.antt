@@ -1,0 +1,21 @@
+-- How crossings are written: a to g for the rays forwards, A to G backwards, - for none. Assumes nothing.
+--     symbolOf x           the character of the crossing x
+--     Reads c o            o is the crossing whose character is c, or none if c is no crossing's
+--     ReadAll cs r         r is the crossings that the characters cs stand for, or the first character that stands for none, with its place
+use mathlib.Core.Path.{_≡_}
+use mathlib.Core.List.{List, map}
+use Prim.Native.Nat.{ℕ, _+_, _<_}
+use lib.ListN.{length, getD, take}
+use Rattle.std.specs.Options.{Cases}
+use Rattle.std.specs.declared.option.Option.{Option}
+use Rattle.kinds.specs.declared.crossing.Crossing.{Crossing}
+use Rattle.kinds.specs.declared.crossing.Crossing.the-variants as cross
+use Rattle.kinds.specs.Crossings.{numbered}
+
+abbrev pub symbolOf : Crossing → ℕ
+symbolOf cross.None = 45
+symbolOf (cross.Forwards r) = 96 + numbered r
+symbolOf (cross.Backwards r) = 64 + numbered r
+
+abbrev pub Reads : ℕ → Option Crossing → Type 0
+Reads c o = Cases o ((x : Crossing) → symbolOf x ≡ c → ⊥) (λ x. symbolOf x ≡ c)
