@@ -29,9 +29,9 @@ map-stored (a ∷ (b ∷ (c ∷ (d ∷ (e ∷ (f ∷ (g ∷ (x ∷ xs)))))))) h 
 odd-more : (b : Bool) (n : ℕ) → xor b (odd n) ≡ odd (bitOf b + n)
 odd-more false n = ap odd (omega arith)
 odd-more true n = elim (cases-eq (n % 2) 1) [
-    inl e ↦ ap not (eq-eqb (n % 2) 1 e) ∙ sym (ne-eqb ((1 + n) % 2) 1 (λ h. omega arith))
+  | inl e ↦ ap not (eq-eqb (n % 2) 1 e) ∙ sym (ne-eqb ((1 + n) % 2) 1 (λ h. omega arith))
   | inr f ↦ ap not (ne-eqb (n % 2) 1 f) ∙ sym (eq-eqb ((1 + n) % 2) 1 (omega arith))
-  ]
+]
 
 -- the product tells for each ray whether it is crossed an odd number of times
 pub product-tells : (xs : List Crossing) → Tells xs (product sides xs)

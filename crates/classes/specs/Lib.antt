@@ -4,3 +4,4 @@ pub mod Words
 pub mod Strikes
 pub mod Sides
 pub mod Symbols
+pub mod Reading

@@ -1,11 +1,8 @@
 -- How crossings are written: a to g for the rays forwards, A to G backwards, - for none. Assumes nothing.
 --     symbolOf x           the character of the crossing x
 --     Reads c o            o is the crossing whose character is c, or none if c is no crossing's
---     ReadAll cs r         r is the crossings that the characters cs stand for, or the first character that stands for none, with its place
 use mathlib.Core.Path.{_≡_}
-use mathlib.Core.List.{List, map}
-use Prim.Native.Nat.{ℕ, _+_, _<_}
-use lib.ListN.{length, getD, take}
+use Prim.Native.Nat.{ℕ, _+_}
 use Rattle.std.specs.Options.{Cases}
 use Rattle.std.specs.declared.option.Option.{Option}
 use Rattle.kinds.specs.declared.crossing.Crossing.{Crossing}

@@ -2,7 +2,7 @@
 ghost use mathlib.Core.Path.{_≡_};
 ghost use mathlib.Core.Bool.{true};
 ghost use Rattle.std.specs.declared.option.Option.the-variants.{Some};
-ghost use Rattle.classes.specs.Letters.{rankOf, turned, letterOf, forwardsOf, letters};
+ghost use Rattle.classes.specs.Letters.{rankOf, turned, letterOf, crossingOf, forwardsOf, letters};
 use kinds::crossing::Crossing;
 use kinds::crossing::Ray;
 use std::cmp::Ordering;
@@ -79,6 +79,28 @@ impl Letter {
             Crossing::None => None,
             Crossing::Forwards(ray) => Some(Letter::forwards(ray)),
             Crossing::Backwards(ray) => Some(Letter::forwards(ray).opposite()),
+        }
+    }
+
+    // The crossing that it stands for.
+    pub fn crossing(self) -> Crossing
+        ensures { λ r. ⌜ r ≡ crossingOf self ⌝ }
+    {
+        match self {
+            Letter::LowerA => Crossing::Forwards(Ray::One),
+            Letter::UpperA => Crossing::Backwards(Ray::One),
+            Letter::LowerB => Crossing::Forwards(Ray::Two),
+            Letter::UpperB => Crossing::Backwards(Ray::Two),
+            Letter::LowerC => Crossing::Forwards(Ray::Three),
+            Letter::UpperC => Crossing::Backwards(Ray::Three),
+            Letter::LowerD => Crossing::Forwards(Ray::Four),
+            Letter::UpperD => Crossing::Backwards(Ray::Four),
+            Letter::LowerE => Crossing::Forwards(Ray::Five),
+            Letter::UpperE => Crossing::Backwards(Ray::Five),
+            Letter::LowerF => Crossing::Forwards(Ray::Six),
+            Letter::UpperF => Crossing::Backwards(Ray::Six),
+            Letter::LowerG => Crossing::Forwards(Ray::Seven),
+            Letter::UpperG => Crossing::Backwards(Ray::Seven),
         }
     }
 }

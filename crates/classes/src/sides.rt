@@ -114,4 +114,3 @@ pub impl Class for Sides as SidesClass {
             + 64 * bit(seven)
     }
 }
-

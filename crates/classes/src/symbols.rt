@@ -1,10 +1,14 @@
 // How crossings and letters are written: a to g for the rays forwards, A to G backwards, - for none.
 ghost use mathlib.Core.Path.{_≡_};
-ghost use Rattle.classes.specs.Letters.{crossingOf};
+ghost use Rattle.std.specs.Of.Vec.{vec-items, vec-cap};
 ghost use Rattle.classes.specs.Symbols.{symbolOf, Reads};
+ghost use Rattle.classes.specs.Reading.{ReadAll};
 use crate::letters::Letter;
+use crate::sides::Sides;
+use crate::words::Word;
 use kinds::crossing::Crossing;
 use kinds::crossing::Ray;
+use std::fmt;
 
 // The character of a crossing.
 pub fn symbol(crossing: Crossing) -> char
@@ -41,26 +45,64 @@ pub fn crossing(symbol: char) -> Option<Crossing>
     }
 }
 
-impl Letter {
-    // The crossing that it stands for.
-    pub fn crossing(self) -> Crossing
-        ensures { λ r. ⌜ r ≡ crossingOf self ⌝ }
-    {
-        match self {
-            Letter::LowerA => Crossing::Forwards(Ray::One),
-            Letter::UpperA => Crossing::Backwards(Ray::One),
-            Letter::LowerB => Crossing::Forwards(Ray::Two),
-            Letter::UpperB => Crossing::Backwards(Ray::Two),
-            Letter::LowerC => Crossing::Forwards(Ray::Three),
-            Letter::UpperC => Crossing::Backwards(Ray::Three),
-            Letter::LowerD => Crossing::Forwards(Ray::Four),
-            Letter::UpperD => Crossing::Backwards(Ray::Four),
-            Letter::LowerE => Crossing::Forwards(Ray::Five),
-            Letter::UpperE => Crossing::Backwards(Ray::Five),
-            Letter::LowerF => Crossing::Forwards(Ray::Six),
-            Letter::UpperF => Crossing::Backwards(Ray::Six),
-            Letter::LowerG => Crossing::Forwards(Ray::Seven),
-            Letter::UpperG => Crossing::Backwards(Ray::Seven),
+// Why characters could not be read: one of them stands for no crossing, or memory is wanting.
+#[derive(Clone, Copy)]
+pub enum Unread {
+    Symbol { place: usize, symbol: char },
+    Memory,
+}
+
+// The crossings that characters stand for, into `crossings`, whatever that held.
+// At a character that stands for none, those before it; where memory is wanting, nothing.
+pub fn read(symbols: &[char], crossings: &mut Vec<Crossing>) -> Result<(), Unread>
+    ensures { λ r. ⌜ ReadAll (now (symbols .entry)) (vec-cap (now (crossings .entry))) (vec-items (now (crossings .exit))) r ⌝ }
+{
+    crossings.clear();
+    if crossings.reserve(symbols.len()).is_err() {
+        return Err(Unread::Memory);
+    }
+    for (place, symbol) in symbols.iter().enumerate() {
+        match crossing(*symbol) {
+            Some(next) => crossings.push_reserved(next),
+            None => return Err(Unread::Symbol {
+                place,
+                symbol: *symbol,
+            }),
         }
+    }
+    Ok(())
+}
+
+// Letters as they are written, or `unit` for none.
+#[derive(Clone, Copy)]
+pub struct Spelled<'a>(pub &'a [Letter]);
+
+pub impl fmt::Display for Spelled<'_> as SpelledDisplay {
+    fn fmt<W: fmt::Write>(&self, f: &mut fmt::Formatter<W>) -> fmt::Result {
+        if self.0.is_empty() {
+            return f.write_str("unit");
+        }
+        for letter in self.0 {
+            f.write_char(symbol(letter.crossing()))?;
+        }
+        Ok(())
+    }
+}
+
+pub impl fmt::Display for Word as WordDisplay {
+    fn fmt<W: fmt::Write>(&self, f: &mut fmt::Formatter<W>) -> fmt::Result {
+        Spelled(self.as_slice()).fmt(f)
+    }
+}
+
+// Seven digits, ray 1 first: 1 if the ray was crossed an odd number of times.
+pub impl fmt::Display for Sides as SidesDisplay {
+    fn fmt<W: fmt::Write>(&self, f: &mut fmt::Formatter<W>) -> fmt::Result {
+        for number in 1..8u8 {
+            if let Some(ray) = Ray::from_number(number) {
+                f.write_char(if self.is_odd(ray) { '1' } else { '0' })?;
+            }
+        }
+        Ok(())
     }
 }
