@@ -1,0 +1,3 @@
+// The two kinds of costs: the length of a run, and its steepest slope.
+pub mod length;
+pub mod slope;
