@@ -3,6 +3,7 @@
 --     words            the class kind: reduced words, of which those of at most `longest` letters are held
 --     single o         the word of one letter, or of none
 --     shortlex         the order of lists of letters: the shorter first, then by the first letter that differs
+--     mixed h a        the hash h, going on with the letter a
 --     hashed h w       the hash of the letters w, going on from h
 --     word xs          the letters of the class of the crossings xs
 use mathlib.Core.Path.{_≡_, refl, sym, ap, _∙_}
@@ -74,9 +75,12 @@ words = record {
   held-inv = held-inverse;
 }
 
+abbrev pub mixed : ℕ → Letter → ℕ
+mixed h a = ((h * 31) % 2 ^ 32 + (rankOf a + 1)) % 2 ^ 32
+
 abbrev pub hashed : ℕ → List Letter → ℕ
 hashed h [] = h
-hashed h (a ∷ w) = hashed (((h * 31) % 2 ^ 32 + (rankOf a + 1)) % 2 ^ 32) w
+hashed h (a ∷ w) = hashed (mixed h a) w
 
 abbrev pub word : List Crossing → List Letter
 word xs = product words xs .0

@@ -3,47 +3,62 @@ ghost use mathlib.Core.Path.{_≡_};
 ghost use Prim.Native.Nat.{_≤_};
 ghost use lib.ListN.{length};
 ghost use Rattle.std.specs.Orderings.{When, Decides};
-ghost use Rattle.classes.specs.Letters.{turned};
+ghost use Rattle.kinds.specs.Comparisons.{lists};
+ghost use Rattle.classes.specs.Letters.{turned, letters};
 ghost use Rattle.classes.specs.Reduced.{EndsIn};
-ghost use Rattle.classes.specs.Words.{shortlex, hashed, longest};
+ghost use Rattle.classes.specs.Words.{shortlex, mixed, hashed, longest};
 use crate::letters::Letter;
 use crate::letters::LetterOrd;
 use crate::letters::LetterPartialEq;
 use crate::words::LONGEST;
 use std::cmp::Ordering;
 
+// By the first letter that differs.
+fn by_letters(left: &[Letter], right: &[Letter]) -> Ordering
+    ensures { λ r. ⌜ r ≡ lists letters .cmp (now (left .entry)) (now (right .entry)) ⌝ }
+{
+    left.cmp(&right)
+}
+
 // The shorter first, then by the first letter that differs.
 pub fn by_length(left: &[Letter], right: &[Letter]) -> Ordering
     ensures { λ r. ⌜ r ≡ shortlex .cmp (now (left .entry)) (now (right .entry)) ⌝ }
 {
-    left.len().cmp(&right.len()).then(left.cmp(&right))
+    left.len().cmp(&right.len()).then(by_letters(left, right))
+}
+
+// The hash of some letters and then one more.
+fn hash_more(sum: u32, letter: Letter) -> u32
+    ensures { λ r. ⌜ r ≡ mixed sum letter ⌝ }
+{
+    sum.wrapping_mul(31)
+        .wrapping_add(u32::from(letter.rank()) + 1)
 }
 
 // A hash of the letters.
-pub fn hash(letters: &[Letter]) -> u32
-    ensures { λ r. ⌜ r ≡ hashed 0 (now (letters .entry)) ⌝ }
+pub fn hash(word: &[Letter]) -> u32
+    ensures { λ r. ⌜ r ≡ hashed 0 (now (word .entry)) ⌝ }
 {
     let mut sum: u32 = 0;
-    for letter in letters {
-        sum = sum.wrapping_mul(31)
-            .wrapping_add(u32::from(letter.rank()) + 1);
+    for letter in word {
+        sum = hash_more(sum, *letter);
     }
     sum
 }
 
 // Whether one more letter cancels: the last letter is its opposite.
-pub fn cancels(letters: &[Letter], more: Letter) -> bool
-    ensures { λ r. ⌜ When r (EndsIn (now (letters .entry)) (turned more)) (EndsIn (now (letters .entry)) (turned more) → ⊥) ⌝ }
+pub fn cancels(word: &[Letter], more: Letter) -> bool
+    ensures { λ r. ⌜ When r (EndsIn (now (word .entry)) (turned more)) (EndsIn (now (word .entry)) (turned more) → ⊥) ⌝ }
 {
-    match letters {
+    match word {
         [.., last] => *last == more.opposite(),
         [] => false,
     }
 }
 
 // Whether a word of these letters is held.
-pub fn is_held(letters: &[Letter]) -> bool
-    ensures { λ r. ⌜ Decides r (length (now (letters .entry)) ≤ longest) ⌝ }
+pub fn is_held(word: &[Letter]) -> bool
+    ensures { λ r. ⌜ Decides r (length (now (word .entry)) ≤ longest) ⌝ }
 {
-    letters.len() <= LONGEST
+    word.len() <= LONGEST
 }

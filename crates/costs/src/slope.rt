@@ -2,7 +2,7 @@
 ghost use mathlib.Core.Path.{_≡_};
 ghost use Prim.Native.Nat.{min};
 ghost use Rattle.costs.specs.Limits.{steepest};
-ghost use Rattle.costs.specs.Slopes.{slopes, steep};
+ghost use Rattle.costs.specs.Slopes.{slopes};
 use kinds::cost::Cost;
 use std::cmp::Ordering;
 
@@ -19,22 +19,10 @@ const STEEPEST: u32 = 255;
 fn capped(number: u32) -> u8
     ensures { λ r. ⌜ r ≡ min number steepest ⌝ }
 {
-    if number < STEEPEST { number as u8 } else { u8::MAX }
-}
-
-impl Slope {
-    // The slope of a risk.
-    pub fn of_risk(risk: u8) -> Slope
-        ensures { λ r. ⌜ r ≡ steep risk ⌝ }
-    {
-        Slope { grade: risk }
-    }
-
-    // Its number, 0 to 255.
-    pub fn grade(&self) -> u8
-        ensures { λ r. ⌜ r ≡ now (self .entry) .grade ⌝ }
-    {
-        self.grade
+    if number < STEEPEST {
+        number as u8
+    } else {
+        u8::MAX
     }
 }
 
@@ -42,19 +30,23 @@ pub impl Cost for Slope as SlopeCost {
     ghost costs = { slopes };
 
     fn zero() -> Slope {
-        Slope::of_risk(0)
+        Slope { grade: 0 }
     }
 
     fn plus(self, other: Slope) -> Slope {
-        Slope { grade: self.grade.max(other.grade) }
+        Slope {
+            grade: self.grade.max(other.grade),
+        }
     }
 
     fn of_lane(_length: u32, risk: u8) -> Slope {
-        Slope::of_risk(risk)
+        Slope { grade: risk }
     }
 
     fn limit(cable: u32) -> Slope {
-        Slope { grade: capped(cable) }
+        Slope {
+            grade: capped(cable),
+        }
     }
 
     fn compare(&self, other: &Slope) -> Ordering {

@@ -13,10 +13,10 @@ use Rattle.kinds.specs.Comparisons.{numbers}
 pub under-from-le : (m n : ℕ) → m ≤ n → Under numbers m n
 under-from-le m n h =
     elim (cases-order m n) [
-      inl e ↦ inr (sym (unsigned .says m n Equal e))
-    | inr d ↦ elim d [
-        inl l ↦ inl (sym (unsigned .says m n Less l))
-      | inr g ↦ absurd (omega arith)
+      | inl e ↦ inr (sym (unsigned .says m n Equal e))
+      | inr d ↦ elim d [
+        | inl l ↦ inl (sym (unsigned .says m n Less l))
+        | inr g ↦ absurd (omega arith)
       ]
     ]
 

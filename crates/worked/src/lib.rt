@@ -9,3 +9,6 @@ pub fn worked_examples() -> usize
 {
     8
 }
+
+#[cfg(test)]
+mod tests;

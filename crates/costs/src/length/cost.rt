@@ -19,17 +19,12 @@ fn stop(number: u32) -> u32
 
 impl Length {
     // A number of centimetres; larger ones stop.
-    pub fn of_centimetres(number: u32) -> Length
+    fn of_centimetres(number: u32) -> Length
         ensures { λ r. ⌜ r ≡ stopped number ⌝ }
     {
-        Length { centimetres: stop(number) }
-    }
-
-    // The number of centimetres.
-    pub fn centimetres(&self) -> u32
-        ensures { λ r. ⌜ r ≡ now (self .entry) .centimetres ⌝ }
-    {
-        self.centimetres
+        Length {
+            centimetres: stop(number),
+        }
     }
 }
 

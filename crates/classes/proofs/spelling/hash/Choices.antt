@@ -5,4 +5,4 @@ use Rattle.classes.proofs.spelling.hash.Given as given
 
 -- what is left, hashed on from here, gives the whole
 abbrev pub Inv-loop-letter : given.InvT-loop-letter
-Inv-loop-letter l = hashed (l .sum) (drop (l .letter-index) (l .letters)) ≡ hashed 0 (l .letters)
+Inv-loop-letter l = hashed (l .sum) (drop (l .letter-index) (l .word)) ≡ hashed 0 (l .word)
