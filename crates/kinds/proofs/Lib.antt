@@ -3,3 +3,5 @@ pub mod Maps
 pub mod Lexes
 pub mod Products
 pub mod Numbers
+pub mod Runs
+pub mod Priced

@@ -6,3 +6,4 @@ pub mod Classes
 pub mod Costs
 pub mod Maps
 pub mod Runs
+pub mod Pricing

@@ -4,4 +4,5 @@ pub mod cost;
 pub mod crossing;
 pub mod lane;
 pub mod map;
+pub mod pricing;
 pub mod refusal;

@@ -24,6 +24,7 @@ use kinds::refusal::Refusal;
 use kinds::refusal::RefusalDisplay;
 use std::alloc::Global;
 use std::cmp::Ordering;
+use std::mem::size_of;
 use std::test::*;
 
 // The crossings that a text of ASCII characters stands for.
@@ -78,6 +79,7 @@ fn holds_words_of_32_letters(rt: LibcRuntime) -> Result<(), Fail> {
         return Err(Fail::new("32 letters are held"));
     };
     check(word.as_slice().len() == 32)?;
+    check(size_of::<Word>() == 33)?;
     check(class::<Word>(heap, longer)?.is_none())?;
     check(named(heap, longer)? == longer)?;
     check(!is_held(&[Letter::LowerA; 33]))?;

@@ -5,15 +5,12 @@ use Rattle.worked.proofs.worked_examples.Needs as need
 
 pub returns : need.returns
 returns c = record {
-  count = refl;
-  hold = record {
-    opposites = refl;
-    inner = refl;
-    conjugate = refl;
-    parities = refl;
-    slope = refl;
-    longest = lit≤ tt;
-    too-long = λ h. omega arith;
-    back = refl;
-  };
+  opposites = refl;
+  inner = refl;
+  conjugate = refl;
+  parities = refl;
+  slope = refl;
+  longest = lit≤ tt;
+  too-long = λ h. omega arith;
+  back = refl;
 }

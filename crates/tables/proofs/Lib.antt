@@ -1,0 +1,12 @@
+pub mod Ways
+pub mod Probing
+pub mod Finding
+pub mod Deciding
+pub mod Meeting
+pub mod Entering
+pub mod Clearing
+pub mod Renaming
+pub mod Swapping
+pub mod Covering
+pub mod Pigeonholes
+pub mod Crowding

@@ -1,0 +1,3 @@
+// Tables over lent memory.
+pub mod index;
+pub mod keys;
