@@ -10,3 +10,10 @@ pub mod Swapping
 pub mod Covering
 pub mod Pigeonholes
 pub mod Crowding
+pub mod HeapLists
+pub mod HeapMoves
+pub mod HeapSorts
+pub mod HeapSteps
+pub mod Heaps
+pub mod QueueLengths
+pub mod QueueParts

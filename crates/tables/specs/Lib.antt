@@ -1,2 +1,5 @@
 pub mod Probes
 pub mod Indexes
+pub mod Orders
+pub mod Queues
+pub mod Heaps
