@@ -1,0 +1,14 @@
+pub mod Plans
+pub mod Faults
+pub mod Rays
+pub mod Grids
+pub mod Roads
+pub mod Meanings
+pub mod Holdings
+pub mod GridPlans
+pub mod GridSteps
+pub mod Surveys
+pub mod RoadPlans
+pub mod RoadSteps
+pub mod Outcomes
+pub mod Readings
