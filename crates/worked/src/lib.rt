@@ -7,4 +7,6 @@ pub fn worked_examples()
 {}
 
 #[cfg(test)]
+mod plan_tests;
+#[cfg(test)]
 mod tests;
