@@ -87,7 +87,7 @@ fn is_over(post: Post, spot: Spot) -> bool
 
 impl Grid {
     // Whether the sizes and the spacing are in range.
-    pub fn is_sized(&self) -> bool
+    pub(crate) fn is_sized(&self) -> bool
         ensures { λ r. ⌜ r ≡ sized (now (self .entry) .width) (now (self .entry) .height) (now (self .entry) .spacing) ⌝ }
     {
         2 <= self.width
@@ -99,7 +99,7 @@ impl Grid {
     }
 
     // How many points it has; none if it is not sized.
-    pub fn points(&self) -> u16
+    pub(crate) fn points(&self) -> u16
         ensures { λ r. ⌜ r ≡ pointsOf (now (self .entry) .width) (now (self .entry) .height) (now (self .entry) .spacing) ⌝ }
     {
         if self.is_sized() {

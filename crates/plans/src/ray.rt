@@ -5,7 +5,7 @@ use kinds::crossing::Crossing;
 use kinds::crossing::Ray;
 
 // The ray with this number crossed forwards; nothing if no ray has it.
-pub fn forwards(number: u8) -> Crossing
+pub(crate) fn forwards(number: u8) -> Crossing
     ensures { λ r. ⌜ r ≡ ahead number ⌝ }
 {
     match Ray::from_number(number) {
@@ -15,14 +15,14 @@ pub fn forwards(number: u8) -> Crossing
 }
 
 // Whether the byte stands for a crossing.
-pub fn is_crossing(byte: u8) -> bool
+pub(crate) fn is_crossing(byte: u8) -> bool
     ensures { λ r. ⌜ r ≡ isCrossing byte ⌝ }
 {
     byte <= 7 || (129 <= byte && byte <= 135)
 }
 
 // The crossing that the byte stands for: 0 none, 1 to 7 forwards, 129 to 135 backwards.
-pub fn crossing_of(byte: u8) -> Crossing
+pub(crate) fn crossing_of(byte: u8) -> Crossing
     ensures { λ r. ⌜ r ≡ crossingOf byte ⌝ }
 {
     if byte < 128 {

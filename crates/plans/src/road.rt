@@ -66,7 +66,7 @@ impl Link {
 
 impl Road {
     // How many points it has; none if it says more than a roadmap may have.
-    pub fn point_count(&self) -> u16
+    pub(crate) fn point_count(&self) -> u16
         ensures { λ r. ⌜ r ≡ few (now (self .entry) .points) ⌝ }
     {
         if self.points <= 512 { self.points } else { 0 }
