@@ -5,7 +5,7 @@ use Prim.Native.Nat.{ℕ, _+_}
 use lib.ListN.{length}
 use Rattle.std.proofs.shelf.Lists.{append-nil, length-append}
 use Rattle.plans.specs.Plans.{Head, Command, spell, spell-all, Good, AllGood}
-use Rattle.plans.specs.GridSteps.{Begins}
+use Rattle.plans.specs.Steps.{Begins}
 
 -- good after those before, then good after all of them
 all-good-push : (h : Head) (before cs : List Command) (x : Command) → AllGood h before cs → Good h (before ++ cs) x → AllGood h before (cs ++ (x ∷ []))

@@ -8,7 +8,8 @@ use lib.ListN.{length, getD}
 use Rattle.plans.specs.declared.plan.Grid.{Grid}
 use Rattle.plans.specs.Plans.{Head, grid, spell-head, spell-all, HeadInRange, AllGood, Reads, refused}
 use Rattle.plans.specs.GridPlans.{headOf, Accepts}
-use Rattle.plans.specs.GridSteps.{Ends, Fails}
+use Rattle.plans.specs.GridSteps.{Ends}
+use Rattle.plans.specs.Steps.{Fails}
 use Rattle.plans.proofs.Fronts.{rest, front}
 use Rattle.plans.proofs.GridMemory.{tells-from-holds}
 

@@ -11,7 +11,8 @@ use Rattle.std.proofs.shelf.Lists.{getD-set-same, getD-set-other, length-set, l
 use Rattle.std.proofs.shelf.Tests.{cases-eq, cases-lt}
 use Rattle.plans.specs.declared.plan.Grid.{Grid}
 use Rattle.plans.specs.Plans.{grid, Command, post, block, weigh, point, join, HeadInRange, AllGood}
-use Rattle.plans.specs.GridPlans.{headOf, blank}
+use Rattle.plans.specs.GridPlans.{headOf}
+use Rattle.plans.specs.Holdings.{blank}
 use Rattle.plans.specs.Grids.{place}
 use Rattle.plans.specs.Meanings.{riskAfter, Blocked}
 use Rattle.plans.specs.Holdings.{GridTells}

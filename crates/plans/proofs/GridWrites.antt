@@ -9,7 +9,8 @@ use Rattle.std.specs.declared.option.Option.the-variants.{Some}
 use Rattle.std.specs.declared.result.Result.the-variants.{Ok}
 use Rattle.plans.specs.declared.plan.Grid.{Grid}
 use Rattle.plans.specs.Plans.{Command, post, block, weigh}
-use Rattle.plans.specs.GridPlans.{headOf, blank}
+use Rattle.plans.specs.GridPlans.{headOf}
+use Rattle.plans.specs.Holdings.{blank}
 use Rattle.plans.specs.Grids.{place}
 use Rattle.plans.specs.Holdings.{Placed}
 use Rattle.plans.specs.GridSteps.{write, written, Holds, Takes, Stepped}

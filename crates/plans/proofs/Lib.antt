@@ -17,7 +17,7 @@ pub mod Places
 pub mod Rays
 pub mod RoadCommands
 pub mod RoadFaults
-pub mod RoadFronts
+pub mod ByteNumbers
 pub mod RoadHoldings
 pub mod RoadImages
 pub mod RoadIndexes

@@ -7,11 +7,7 @@ use native.Mathlib.Omega.{arith}
 use lib.ListN.{length, getD}
 use Rattle.plans.specs.Plans.{Head, Command, Letter, spell, Belongs, Fault}
 use Rattle.plans.specs.RoadSteps.{Judged}
-use Rattle.plans.proofs.RoadFronts.{rest, front}
-
--- a letter, then operands
-pub front-at : (xs : List ℕ) (b : ℕ) → 1 ≤ length xs → getD xs 0 0 ≡ b → xs ≡ b ∷ rest 1 xs
-front-at xs b l e = front 1 xs l ∙ ap (λ a. a ∷ rest 1 xs) e
+use Rattle.plans.proofs.Fronts.{rest, front, front-letter}
 
 pub fault-none : (h : Head) (cs : List Command) (xs : List ℕ) → length xs < 1 → Fault h cs xs 5 0
 fault-none h cs [] l = inl (refl, refl, refl)
@@ -19,7 +15,7 @@ fault-none h cs (x ∷ xs) l = absurd (omega arith)
 
 pub fault-more : (h : Head) (cs : List Command) (xs : List ℕ) → 1 ≤ length xs → getD xs 0 0 ≡ 69 → 1 ≤ length (rest 1 xs) → Fault h cs xs 10 1
 fault-more h cs xs l e m =
-    inr (inl (getD (rest 1 xs) 0 0, rest 1 (rest 1 xs), front-at xs 69 l e ∙ ap (λ ys. 69 ∷ ys) (front 1 (rest 1 xs) m), refl, refl))
+    inr (inl (getD (rest 1 xs) 0 0, rest 1 (rest 1 xs), front-letter xs 69 l e ∙ ap (λ ys. 69 ∷ ys) (front 1 (rest 1 xs) m), refl, refl))
 
 pub fault-short : (h : Head) (cs : List Command) (xs : List ℕ) (w : ℕ) → 1 ≤ length xs → Letter h (getD xs 0 0) w → length (rest 1 xs) < w → Fault h cs xs 5 0
 fault-short h cs xs w l a m = inr (inr (inr (inl (getD xs 0 0, rest 1 xs, w, front 1 xs l, a, m, refl, refl))))

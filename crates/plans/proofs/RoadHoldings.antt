@@ -20,7 +20,8 @@ use Rattle.plans.specs.declared.plan.Road.{Road}
 use Rattle.plans.specs.Plans.{Command, point, join, four, joins, Surveyed}
 use Rattle.plans.specs.Surveys.{numbers, surveyPlace, surveyAt}
 use Rattle.plans.specs.Meanings.{surveysOf, indexOf}
-use Rattle.plans.specs.RoadPlans.{laneBytes, lanesIn, padded, image, blank}
+use Rattle.plans.specs.RoadPlans.{laneBytes, lanesIn, padded, image}
+use Rattle.plans.specs.Holdings.{blank}
 use Rattle.plans.specs.RoadSteps.{put, listed, Finds, NoEnds, BothEnds, Enters, Known, Ends-known, Holds}
 use Rattle.plans.proofs.RoadWrites.{length-padded}
 use Rattle.plans.proofs.RoadSurveys.{surveys-append, joins-append, length-lanesIn, known-from-surveyed, surveyed-from-known, ends-known-more, ends-known-append}

@@ -10,7 +10,8 @@ use Rattle.std.proofs.shelf.Tests.{cases-lt, lt-ltb, le-ltb, le-leb}
 use Rattle.plans.specs.Plans.{Command, point, join, four, joins}
 use Rattle.plans.specs.Surveys.{numberAt, surveyPlace, surveyAt}
 use Rattle.plans.specs.Meanings.{surveysOf, indexOf}
-use Rattle.plans.specs.RoadPlans.{laneBytes, lanesIn, fours, padded, image, blank}
+use Rattle.plans.specs.RoadPlans.{laneBytes, lanesIn, fours, padded, image}
+use Rattle.plans.specs.Holdings.{blank}
 use Rattle.plans.specs.RoadSteps.{put, listed, Ends-known}
 use Rattle.plans.proofs.RoadWrites.{put-front, put-back, put-padded, length-padded}
 use Rattle.plans.proofs.RoadSurveys.{surveys-append, length-fours, fours-append, length-lanesIn, lanesIn-append, lanesIn-more}

@@ -3,7 +3,6 @@
 --     postsOf cs          the posts of the commands, in order
 --     Placed cs g         the record's posts are those of the commands
 --     place w c r         the number of a point
---     blank               the memory before reading
 --     Inside g c r        the point lies in the grid
 --     riskAfter k cs c r  the risk of a point after the commands, if it was k before
 --     Blocked cs c r      some command blocks the point
@@ -31,9 +30,6 @@ headOf g = grid (g .width) (g .height) (g .spacing)
 
 abbrev pub postAt : ℕ → ℕ → Post
 postAt c r = record { column = c; row = r }
-
-abbrev pub blank : List ℕ
-blank = replicate 10240 0
 
 abbrev pub Inside : Grid → ℕ → ℕ → Type 0
 Inside g c r = (c < g .width) × (r < g .height)

@@ -6,9 +6,8 @@
 --     PostAdded g c r g′ j     it was added, to commands after which it is good, or j has its fault
 --     written w m cs           the memory m after the commands wrote to it
 --     Holds cs g m             the record and the memory are as the commands wrote them
---     Begins h bytes cs left   good commands stand at the front, and these bytes are left
 --     Takes, Stepped           what reading one command leaves and answers
---     Ends, Fails, Run         what reading all of them leaves and answers
+--     Ends, Run                what reading all of them leaves and answers
 use mathlib.Core.Path.{_≡_}
 use mathlib.Core.List.{List, [], _∷_, _++_}
 use Prim.Native.Nat.{ℕ, _+_, _≤_, _<_}
@@ -22,10 +21,12 @@ use Rattle.plans.specs.declared.plan.Grid.{Grid}
 use Rattle.plans.specs.declared.fault.Stop.{Stop}
 use Rattle.plans.specs.declared.fault.Fault.{Fault}
 use Rattle.plans.specs.declared.fault.Fault.the-variants.{UnknownCommand, CutShort, OutOfRange, GivenTwice, BadEnds, TooMany, AfterEnd}
+use Rattle.plans.specs.Steps.{Begins, Fails}
 use Rattle.plans.specs.Plans.{Head, Command, post, block, weigh, point, join, spell, spell-all, Good, AllGood}
 use Rattle.plans.specs.Plans.{Fault as Faulty}
 use Rattle.plans.specs.Faults.{faultNumber}
-use Rattle.plans.specs.GridPlans.{headOf, blank}
+use Rattle.plans.specs.GridPlans.{headOf}
+use Rattle.plans.specs.Holdings.{blank}
 use Rattle.plans.specs.Holdings.{nowhere, Placed}
 use Rattle.plans.specs.Grids.{place}
 
@@ -69,10 +70,6 @@ pub record Holds (cs : List Command) (g : Grid) (m : List ℕ) : Type 0 where
   pub posted : Placed cs g
   pub wrote : m ≡ written (g .width) blank cs
 
-pub record Begins (h : Head) (bytes : List ℕ) (cs : List Command) (left : List ℕ) : Type 0 where
-  pub spelled : bytes ≡ spell-all cs ++ left
-  pub good : AllGood h [] cs
-
 -- the command at the front is good, and the record and the memory now hold it
 pub record Takes (cs : List Command) (left next : List ℕ) (g g′ : Grid) (m′ : List ℕ) : Type 0 where
   pub command : Command
@@ -92,15 +89,6 @@ pub record Ends (h : Head) (bytes : List ℕ) (g : Grid) (m : List ℕ) : Type 0
   pub commands : List Command
   pub begins : Begins h bytes commands (69 ∷ [])
   pub holds : Holds commands g m
-
--- the commands of a plan, up to the first fault
-pub record Fails (h : Head) (bytes : List ℕ) (n o : ℕ) : Type 0 where
-  pub commands : List Command
-  pub left : List ℕ
-  pub at : ℕ
-  pub begins : Begins h bytes commands left
-  pub fault : Faulty h commands left n at
-  pub offset : o ≡ length (spell-all commands) + at
 
 abbrev pub Run : Grid → List ℕ → Grid → List ℕ → Result Unit Stop → Type 0
 Run g bytes g′ m′ (Ok x) = Ends (headOf g) bytes g′ m′

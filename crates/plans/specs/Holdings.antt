@@ -7,6 +7,7 @@
 --     RoadTells cs r m   the record r and the memory m hold what the commands of a roadmap say
 --     Tells cs p m       the record p of either kind and the memory m hold what the commands say
 --     planSite p m       the map that the record p and the memory m make
+--     blank              the memory before reading: every byte 0
 use mathlib.Core.Path.{_≡_}
 use mathlib.Core.List.{List, [], _∷_, _++_}
 use Prim.Native.Nat.{ℕ, _+_, _-_, _*_, _≤_, _<_}
@@ -66,3 +67,6 @@ Tells cs (kind.Road r) m = RoadTells cs r m
 abbrev pub planSite : Plan → List ℕ → Site
 planSite (kind.Grid g) m = gridSite (viewed g m)
 planSite (kind.Road r) m = roadSite (netIn r m)
+
+abbrev pub blank : List ℕ
+blank = replicate 10240 0

@@ -5,6 +5,7 @@ pub mod Grids
 pub mod Roads
 pub mod Meanings
 pub mod Holdings
+pub mod Steps
 pub mod GridPlans
 pub mod GridSteps
 pub mod Surveys

@@ -1,5 +1,4 @@
 -- What reading a plan answers, and what it leaves in the lent memory. Assumes nothing.
---     blank                    the plan memory with every byte 0
 --     vacant                   the index slots with none taken
 --     Accepted bytes p m       the bytes are an accepted plan: the record p and the memory m hold what its commands say, and their map answers so
 --     Fits bytes m s           the plan is not too long, and the memory and the slots have their sizes
@@ -19,10 +18,7 @@ use Rattle.kinds.specs.Refusals.{numberOf, offsetOf}
 use Rattle.plans.specs.declared.plan.Plan.{Plan}
 use Rattle.plans.specs.Plans.{Command, Reads, accepted, refused}
 use Rattle.plans.specs.Meanings.{siteOf}
-use Rattle.plans.specs.Holdings.{headOf, Tells, planSite}
-
-abbrev pub blank : List ℕ
-blank = replicate 10240 0
+use Rattle.plans.specs.Holdings.{headOf, Tells, planSite, blank}
 
 abbrev pub vacant : List ℕ
 vacant = replicate 1024 0

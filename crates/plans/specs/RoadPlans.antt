@@ -5,7 +5,6 @@
 --     fours ns               the numbers, each as four bytes
 --     padded n xs            xs, and zeros up to the length n
 --     image cs               the memory: the lanes, zeros up to 8192, the survey numbers, zeros up to 10240
---     blank                  the memory before the commands
 --     Tells cs p m           the record p has the counts of the commands, which keep the limits, and the memory m is their image
 --     Accepts bytes p m      the bytes are an accepted plan of a roadmap, and the record and the memory tell its commands
 use mathlib.Core.Path.{_≡_}
@@ -39,9 +38,6 @@ padded n xs = xs ++ replicate (n - length xs) 0
 
 abbrev pub image : List Command → List ℕ
 image cs = padded 8192 (lanesIn (surveysOf cs) cs) ++ padded 2048 (fours (surveysOf cs))
-
-abbrev pub blank : List ℕ
-blank = replicate 10240 0
 
 pub record Tells (cs : List Command) (p : Road) (m : List ℕ) : Type 0 where
   pub counted : p .points ≡ points cs

@@ -11,9 +11,7 @@
 --     Takes cs c p m slots   the command c may come after cs, and the record, the memory and the index are as both say
 --     Closes, Goes           what is left is the end command alone, or begins with one more command, after which `next` is left
 --     Judged h cs c n        the number with which the well spelled command c is refused after cs
---     Begins h bytes cs left the bytes begin with the commands cs, each good after those before it, and the rest is left
 --     Ends bytes p m         the bytes are good commands up to one end command, and the record and the memory are as they say
---     Fails h bytes n o      after good commands stands a fault: number n, at offset o from the first command
 use mathlib.Core.Path.{_≡_}
 use mathlib.Core.List.{List, [], _∷_, _++_}
 use mathlib.Core.Logic.{_⊎_}
@@ -26,6 +24,7 @@ use Rattle.std.specs.declared.option.Option.the-variants.{Some, None}
 use Rattle.tables.specs.declared.index.Inserted.{Inserted}
 use Rattle.tables.specs.Indexes.{Absent, Indexed, Covers, Inserts}
 use Rattle.plans.specs.declared.plan.Road.{Road}
+use Rattle.plans.specs.Steps.{Begins, Fails}
 use Rattle.plans.specs.Plans.{Head, road, Command, post, block, weigh, point, join, spell, spell-all, InRange, Fresh, Ended, Room, Good, AllGood, Fault, joins}
 use Rattle.plans.specs.Surveys.{numbers}
 use Rattle.plans.specs.Meanings.{surveysOf, indexOf}
@@ -88,20 +87,8 @@ Judged h cs c n =
     ⊎ ((InRange h c × Fresh cs c × (Ended cs c → ⊥) × (n ≡ 8))
     ⊎ (InRange h c × Fresh cs c × Ended cs c × (Room cs c → ⊥) × (n ≡ 9))))
 
-pub record Begins (h : Head) (bytes : List ℕ) (cs : List Command) (left : List ℕ) : Type 0 where
-  pub spelled : bytes ≡ spell-all cs ++ left
-  pub good : AllGood h [] cs
-
 pub record Ends (bytes : List ℕ) (p : Road) (m : List ℕ) : Type 0 where
   pub commands : List Command
   pub slots : List ℕ
   pub begins : Begins road bytes commands (69 ∷ [])
   pub holds : Holds commands p m slots
-
-pub record Fails (h : Head) (bytes : List ℕ) (n o : ℕ) : Type 0 where
-  pub commands : List Command
-  pub left : List ℕ
-  pub at : ℕ
-  pub begins : Begins h bytes commands left
-  pub fault : Fault h commands left n at
-  pub offset : o ≡ length (spell-all commands) + at

@@ -10,11 +10,14 @@ ghost use Rattle.tables.specs.Indexes.{Keeps};
 ghost use Rattle.plans.specs.Faults.{faultNumber};
 ghost use Rattle.plans.specs.Plans.{Command, CrossingByte, four, spell, Reads, refused, Fault as Faulty, road as opening, point as pointing, join as joining};
 ghost use Rattle.plans.specs.Surveys.{surveyPlace, surveyAt, numbers};
-ghost use Rattle.plans.specs.RoadPlans.{laneBytes, blank, Accepts};
-ghost use Rattle.plans.specs.RoadSteps.{put, Finds, Enters, NoEnds, BothEnds, Holds, Takes, Judged, Closes, Goes, Ends, Fails};
+ghost use Rattle.plans.specs.RoadPlans.{laneBytes, Accepts};
+ghost use Rattle.plans.specs.Holdings.{blank};
+ghost use Rattle.plans.specs.RoadSteps.{put, Finds, Enters, NoEnds, BothEnds, Holds, Takes, Judged, Closes, Goes, Ends};
+ghost use Rattle.plans.specs.Steps.{Fails};
 use crate::fault::Fault;
 use crate::fault::Stop;
 use crate::plan::Road;
+use crate::ray::is_crossing;
 use crate::survey::Surveys;
 use crate::survey::SurveysKeys;
 use crate::survey::survey_place;
@@ -81,13 +84,6 @@ fn take_join(bytes: &[u8]) -> Option<(Join, &[u8])>
         crossing: *crossing,
     };
     Some((join, rest))
-}
-
-// Whether a byte says which ray a lane crosses, and which way: none, 1 to 7 forwards, 129 to 135 backwards.
-fn is_crossing(byte: u8) -> bool
-    ensures { λ r. ⌜ Decides r (CrossingByte byte) ⌝ }
-{
-    byte <= 7 || 129 <= byte && byte <= 135
 }
 
 // Whether a lane may have this length and crossing byte.

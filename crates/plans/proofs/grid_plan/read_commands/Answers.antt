@@ -10,7 +10,8 @@ use Rattle.plans.specs.Plans.{Head, Good}
 use Rattle.plans.specs.Plans.{Fault as Faulty}
 use Rattle.plans.specs.Faults.{faultNumber}
 use Rattle.plans.specs.GridPlans.{headOf}
-use Rattle.plans.specs.GridSteps.{Begins, Takes, Run}
+use Rattle.plans.specs.Steps.{Begins}
+use Rattle.plans.specs.GridSteps.{Takes, Run}
 use Rattle.plans.proofs.Commands.{begins-push, length-begins}
 use Rattle.plans.proofs.GridWrites.{takes-at-some}
 use Rattle.plans.proofs.grid_plan.read_commands.Needs as need

@@ -3,7 +3,8 @@ use mathlib.Core.List.{List}
 use lib.ListN.{length}
 use Rattle.plans.specs.Plans.{Command}
 use Rattle.plans.specs.GridPlans.{headOf}
-use Rattle.plans.specs.GridSteps.{Begins, Holds}
+use Rattle.plans.specs.Steps.{Begins}
+use Rattle.plans.specs.GridSteps.{Holds}
 use Rattle.plans.proofs.grid_plan.read_commands.Given as given
 
 -- some good commands stand before what is left, and the record and the memory hold them

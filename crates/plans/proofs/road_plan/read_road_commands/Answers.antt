@@ -6,8 +6,9 @@ use denote.Ref.{RefT}
 use Prim.Native.Nat.{ℕ}
 use Rattle.std.proofs.shelf.Results.{cases-at-some}
 use Rattle.plans.specs.Plans.{road}
-use Rattle.plans.specs.RoadSteps.{Begins, Goes}
-use Rattle.plans.proofs.RoadCommands.{begins-more, length-begins}
+use Rattle.plans.specs.Steps.{Begins}
+use Rattle.plans.specs.RoadSteps.{Goes}
+use Rattle.plans.proofs.Commands.{begins-push, length-begins}
 use Rattle.plans.proofs.road_plan.read_road_commands.Needs as need
 
 pub loop-next-again : need.loop-next-again
@@ -19,7 +20,7 @@ loop-next-again c =
     let held = c .in-Ok-Some .ensures tt .after cs holds in
     let goes : Goes cs left next (c .step .last .counts) (c .step .last .memory) (c .step .last .slots) = search (needs, cases-at-some) in
     let (x, spelled, (good, holding)) = goes in
-    let more = begins-more road bytes cs left x next begins spelled good in
+    let more = begins-push road bytes cs left x next begins spelled good in
     (cs ++ (x ∷ []), subst (λ (left : RefT (List ℕ)). Begins road bytes (cs ++ (x ∷ [])) (left .now)) (sym (c .in-Ok-Some .next-is)) more, holding)
 
 pub sub-result : need.sub-result

@@ -1,7 +1,8 @@
 use mathlib.Core.List.{List}
 use lib.ListN.{length}
 use Rattle.plans.specs.Plans.{Command, road}
-use Rattle.plans.specs.RoadSteps.{Begins, Holds}
+use Rattle.plans.specs.Steps.{Begins}
+use Rattle.plans.specs.RoadSteps.{Holds}
 use Rattle.plans.proofs.road_plan.read_road_commands.Given as given
 
 -- some commands stand between the start and what is left, and the record, the memory and the index hold them

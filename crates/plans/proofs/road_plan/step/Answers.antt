@@ -8,8 +8,9 @@ use lib.ListN.{length}
 use Rattle.std.proofs.shelf.Lists.{nil-from-length, length-append}
 use Rattle.plans.specs.Faults.{faultNumber}
 use Rattle.plans.specs.Plans.{road, Command, point, join, spell}
-use Rattle.plans.proofs.RoadFronts.{rest}
-use Rattle.plans.proofs.RoadFaults.{front-at, fault-none, fault-more, fault-short, fault-judged}
+use Rattle.plans.proofs.Fronts.{rest}
+use Rattle.plans.proofs.Fronts.{front-letter}
+use Rattle.plans.proofs.RoadFaults.{fault-none, fault-more, fault-short, fault-judged}
 use Rattle.plans.proofs.road_plan.step.Needs as need
 
 pub returns-in-rest : need.returns-in-rest
@@ -32,7 +33,7 @@ returns-in-Ok c =
     let xs = c .args .left .now in
     let n = c .in-Some .survey in
     let one : 1 ≤ length xs = search needs in
-    let spelled : xs ≡ spell (point n) ++ c .in-Some .next .now = front-at xs 80 one (omega arith) ∙ ap (λ ys. 80 ∷ ys) (c .in-Some .ensures tt) in
+    let spelled : xs ≡ spell (point n) ++ c .in-Some .next .now = front-letter xs 80 one (omega arith) ∙ ap (λ ys. 80 ∷ ys) (c .in-Some .ensures tt) in
     record {
       within = omega (arith, ap length spelled, length-append (spell (point n)) (c .in-Some .next .now));
       after = λ cs h. (point n, spelled, c .in-Ok .ensures tt cs h);
@@ -47,7 +48,7 @@ returns-in-Err c =
       within = omega arith;
       after = λ cs h.
           fault-judged road cs xs (point n) (c .in-Some .next .now) (faultNumber (c .in-Err .fault))
-          (front-at xs 80 one (omega arith) ∙ ap (λ ys. 80 ∷ ys) (c .in-Some .ensures tt)) tt (c .in-Err .ensures tt cs h);
+          (front-letter xs 80 one (omega arith) ∙ ap (λ ys. 80 ∷ ys) (c .in-Some .ensures tt)) tt (c .in-Err .ensures tt cs h);
     }
 
 pub returns-in-Ok-add-lane : need.returns-in-Ok-add-lane
@@ -56,7 +57,7 @@ returns-in-Ok-add-lane c =
     let a = c .in-Some-take-join .join in
     let x : Command = join (a .first) (a .second) (a .length) (a .risk) (a .crossing) in
     let one : 1 ≤ length xs = search needs in
-    let spelled : xs ≡ spell x ++ c .in-Some-take-join .next .now = front-at xs 65 one (omega arith) ∙ c .in-Some-take-join .ensures tt in
+    let spelled : xs ≡ spell x ++ c .in-Some-take-join .next .now = front-letter xs 65 one (omega arith) ∙ c .in-Some-take-join .ensures tt in
     record {
       within = omega (arith, ap length spelled, length-append (spell x) (c .in-Some-take-join .next .now));
       after = λ cs h. (x, spelled, c .in-Ok-add-lane .ensures tt cs h);
@@ -72,7 +73,7 @@ returns-in-Err-add-lane c =
       within = omega arith;
       after = λ cs h.
           fault-judged road cs xs x (c .in-Some-take-join .next .now) (faultNumber (c .in-Err-add-lane .fault))
-          (front-at xs 65 one (omega arith) ∙ c .in-Some-take-join .ensures tt) tt (c .in-Err-add-lane .ensures tt cs h);
+          (front-letter xs 65 one (omega arith) ∙ c .in-Some-take-join .ensures tt) tt (c .in-Err-add-lane .ensures tt cs h);
     }
 
 pub returns-in-E : need.returns-in-E
@@ -81,7 +82,7 @@ returns-in-E c =
     let one : 1 ≤ length xs = search needs in
     record {
       within = tt;
-      after = λ cs h. (front-at xs 69 one (omega arith) ∙ ap (λ ys. 69 ∷ ys) (nil-from-length (rest 1 xs) (omega arith)), h);
+      after = λ cs h. (front-letter xs 69 one (omega arith) ∙ ap (λ ys. 69 ∷ ys) (nil-from-length (rest 1 xs) (omega arith)), h);
     }
 
 pub returns-in-E-2 : need.returns-in-E-2

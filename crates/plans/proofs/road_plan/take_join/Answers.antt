@@ -4,7 +4,8 @@ use mathlib.Core.Path.{ap, _∙_}
 use mathlib.Core.List.{_∷_, _++_}
 use lib.ListN.{length, getD}
 use Rattle.plans.specs.Plans.{four}
-use Rattle.plans.proofs.RoadFronts.{rest, front, two-bytes}
+use Rattle.plans.proofs.Fronts.{rest, front}
+use Rattle.plans.proofs.ByteNumbers.{two-bytes}
 use Rattle.plans.proofs.road_plan.take_join.Needs as need
 
 pub returns : need.returns

@@ -3,7 +3,8 @@ use native.Mathlib.Omega.{arith}
 use Prim.Native.Nat.{_≤_}
 use mathlib.Core.Path.{_∙_}
 use lib.ListN.{length, getD}
-use Rattle.plans.proofs.RoadFronts.{rest, front, four-bytes}
+use Rattle.plans.proofs.Fronts.{rest, front}
+use Rattle.plans.proofs.ByteNumbers.{four-bytes}
 use Rattle.plans.proofs.road_plan.take_number.Needs as need
 
 pub returns : need.returns
