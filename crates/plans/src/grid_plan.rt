@@ -12,8 +12,12 @@ ghost use Rattle.plans.specs.GridPlans.{headOf, postAt, Inside, Opened};
 ghost use Rattle.plans.specs.Holdings.{blank};
 ghost use Rattle.plans.specs.Grids.{place};
 ghost use Rattle.plans.specs.GridSteps.{Squared, Taken, PostJudged, PostAdded, Holds, Stepped, Run};
+use crate::fault::AFTER_END;
+use crate::fault::CUT_SHORT;
 use crate::fault::Fault;
+use crate::fault::OUT_OF_RANGE;
 use crate::fault::Stop;
+use crate::fault::UNKNOWN_COMMAND;
 use crate::plan::Grid;
 use crate::plan::Post;
 
@@ -22,40 +26,6 @@ const NOWHERE: Post = Post { column: 0, row: 0 };
 
 // Where the bytes that say whether a point is blocked begin.
 const BLOCKED: usize = 4096;
-
-// Faults at the command that is read, and one at the byte after the end command.
-const UNKNOWN_COMMAND: Stop = Stop {
-    fault: Fault::UnknownCommand,
-    at: 0,
-};
-
-const CUT_SHORT: Stop = Stop {
-    fault: Fault::CutShort,
-    at: 0,
-};
-
-const OUT_OF_RANGE: Stop = Stop {
-    fault: Fault::OutOfRange,
-    at: 0,
-};
-
-const AFTER_END: Stop = Stop {
-    fault: Fault::AfterEnd,
-    at: 1,
-};
-
-impl Stop {
-    // The same stop, where so many bytes come before those that its offset is counted in.
-    fn after(self, bytes: usize) -> Stop
-        requires { ⌜ bytes + self .at < 2 ^ 64 ⌝ }
-        ensures { λ r. ⌜ r ≡ record { fault = self .fault; at = bytes + self .at } ⌝ }
-    {
-        Stop {
-            fault: self.fault,
-            at: bytes + self.at,
-        }
-    }
-}
 
 impl Post {
     // Takes the post's column and row.

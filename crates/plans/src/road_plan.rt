@@ -14,8 +14,11 @@ ghost use Rattle.plans.specs.RoadPlans.{laneBytes, Accepts};
 ghost use Rattle.plans.specs.Holdings.{blank};
 ghost use Rattle.plans.specs.RoadSteps.{put, Finds, Enters, NoEnds, BothEnds, Holds, Takes, Judged, Closes, Goes, Ends};
 ghost use Rattle.plans.specs.Steps.{Fails};
+use crate::fault::AFTER_END;
+use crate::fault::CUT_SHORT;
 use crate::fault::Fault;
 use crate::fault::Stop;
+use crate::fault::UNKNOWN_COMMAND;
 use crate::plan::Road;
 use crate::ray::is_crossing;
 use crate::survey::Surveys;
@@ -29,23 +32,6 @@ use tables::index::insert;
 const POINTS: u16 = 512;
 
 const LANES: u16 = 1024;
-
-// No command or no operands are left where they should stand.
-const CUT_SHORT: Stop = Stop {
-    fault: Fault::CutShort,
-    at: 0,
-};
-
-const UNKNOWN_COMMAND: Stop = Stop {
-    fault: Fault::UnknownCommand,
-    at: 0,
-};
-
-// The byte behind the end command.
-const AFTER_END: Stop = Stop {
-    fault: Fault::AfterEnd,
-    at: 1,
-};
 
 // The operands of a lane command: two survey numbers, and what lies between.
 #[derive(Clone, Copy)]
