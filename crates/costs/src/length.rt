@@ -7,6 +7,6 @@ pub mod cost;
 // A length in centimetres, at most 1,000,000,000.
 #[derive(Clone, Copy)]
 pub struct Length {
-    centimetres: u32,
+    pub(crate) centimetres: u32,
     ghost top: { centimetres ≤ most },
 }

@@ -9,7 +9,7 @@ use std::cmp::Ordering;
 // A slope, 0 to 255.
 #[derive(Clone, Copy)]
 pub struct Slope {
-    grade: u8,
+    pub(crate) grade: u8,
 }
 
 // The largest slope that is a limit.
