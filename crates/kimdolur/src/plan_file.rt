@@ -1,12 +1,9 @@
 // A plan file: its record, and the memory that the rest of the plan lies in.
-use kinds::refusal::Refusal;
 use kinds::refusal::RefusalDisplay;
 use plans::plan::Plan;
 use plans::reading;
 use plans::reading::PLAN_MEMORY;
 use plans::reading::PLAN_SLOTS;
-use std::alloc::AllocError;
-use std::alloc::Global;
 use std::error::AnyError;
 use std::fs;
 
@@ -15,15 +12,6 @@ use std::fs;
 pub(crate) struct Held {
     pub(crate) plan: Plan,
     pub(crate) memory: Vec<u8>,
-}
-
-// What a refusal is reported as.
-fn refused(heap: Global, refusal: Refusal) -> Result<String, AllocError> {
-    let text = format!(heap, "{refusal}")?;
-    match text.as_str().strip_prefix("refusal") {
-        Some(rest) => format!(heap, "refused{rest}"),
-        None => Ok(text),
-    }
 }
 
 // Reads the bytes of a file, or says that they cannot be read.
@@ -45,6 +33,6 @@ pub(crate) fn read(rt: &LibcRuntime, path: &str) -> Result<Held, AnyError> {
     let mut slots = vec![in heap; 0u16; PLAN_SLOTS]?;
     match reading::read(&bytes, &mut memory, &mut slots) {
         Ok(plan) => Ok(Held { plan, memory }),
-        Err(refusal) => Err(refused(heap, refusal)?.into()),
+        Err(refusal) => Err(format!(heap, "{refusal}")?.into()),
     }
 }

@@ -99,9 +99,10 @@ fn show_grid(heap: Global, grid: &Grid, memory: &[u8]) -> Result<String, AnyErro
     let height = grid.height;
     let spacing = grid.spacing;
     let count = grid.count;
+    let posts = if count == 1 { "post" } else { "posts" };
     writeln!(
         out,
-        "grid {width} by {height}, spacing {spacing} cm, {count} posts"
+        "grid {width} by {height}, spacing {spacing} cm, {count} {posts}"
     )?;
     add_posts(&mut out, grid)?;
     add_drawing(&mut out, grid, memory)?;

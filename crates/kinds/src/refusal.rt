@@ -114,8 +114,8 @@ pub impl fmt::Display for Refusal as RefusalDisplay {
         let number = self.number();
         let sentence = self.sentence();
         match self.offset() {
-            Some(at) => write!(f, "refusal {number} at {at}: {sentence}"),
-            None => write!(f, "refusal {number}: {sentence}"),
+            Some(at) => write!(f, "refused {number} at {at}: {sentence}"),
+            None => write!(f, "refused {number}: {sentence}"),
         }
     }
 }

@@ -122,9 +122,9 @@ fn inverts_and_shows(rt: LibcRuntime) -> Result<(), Fail> {
     check(Sides::of(&all).to_string(heap)? == "0100000")?;
     check(
         Refusal::OutOfRange(5).to_string(heap)?
-            == "refusal 6 at 5: an operand is outside its range",
+            == "refused 6 at 5: an operand is outside its range",
     )?;
-    check(Refusal::NoLane.to_string(heap)? == "refusal 19: the lane is missing")
+    check(Refusal::NoLane.to_string(heap)? == "refused 19: the lane is missing")
 }
 
 // Whether two costs are the same.
