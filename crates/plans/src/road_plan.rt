@@ -295,6 +295,14 @@ fn read_indexed(operands: &[u8], memory: &mut [u8], slots: &mut [u16]) -> Result
     }
 }
 
+// Makes the slots vacant.
+fn vacate(slots: &mut [u16])
+    requires { ⌜ length (now slots) ≡ 1024 ⌝ }
+    ensures { λ _. ⌜ now (slots .exit) ≡ replicate 1024 0 ⌝ }
+{
+    clear(slots);
+}
+
 // Reads a roadmap from behind its letter into blank memory. The slots are vacant again after every end.
 pub(crate) fn read_road(operands: &[u8], memory: &mut [u8], slots: &mut [u16]) -> Result<Road, Stop>
     requires zeroed { ⌜ now memory ≡ blank ⌝ }
@@ -304,6 +312,6 @@ pub(crate) fn read_road(operands: &[u8], memory: &mut [u8], slots: &mut [u16]) -
     ensures vacant { λ _. ⌜ now (slots .exit) ≡ replicate 1024 0 ⌝ }
 {
     let answer = read_indexed(operands, memory, slots);
-    clear(slots);
+    vacate(slots);
     answer
 }
