@@ -107,7 +107,7 @@ def turn_antt(text, turned):
 def turn_rt(text, turned):
     """The clauses, ghost items and ghost imports of a file of Rattle."""
     out, i = [], 0
-    head = re.compile(r"\b(?:requires|ensures|ghost)\b[^\n{;=]*[=]?[^\n{;=]*\{|\bghost use [^;]*;|^//.*$|//[^\n]*|\"(?:\\.|[^\"\\])*\"", re.M)
+    head = re.compile(r"\bghost use [^;]*;|\b(?:requires|ensures|ghost)\b[^\n{;=]*[=]?[^\n{;=]*\{|^//.*$|//[^\n]*|\"(?:\\.|[^\"\\])*\"", re.M)
     while True:
         m = head.search(text, i)
         if not m:

@@ -6,10 +6,10 @@ ghost use Rattle.tables.specs.declared.index.Inserted.TheVariants.{At};
 ghost use Rattle.tables.specs.Orders.{AtMost};
 ghost use Rattle.tables.specs.Queues.{places as capacity, waiting};
 ghost use Rattle.charts.specs.Charts.{Stands};
-ghost use Rattle.steps.specs.Opens.{byBound};
+ghost use Rattle.steps.specs.Opens.{by_bound};
 ghost use Rattle.charting.specs.Searches.{Sized};
 ghost use Rattle.charting.specs.Steps.{Swaps, Adds, Lowers};
-ghost use Rattle.steps.specs.Keys.{pairKeys, pairing, pair_of, pair_at};
+ghost use Rattle.steps.specs.Keys.{pair_keys, pairing, pair_of, pair_at};
 
 use charts::chart::Pair;
 use kinds::class::Class;

@@ -1,6 +1,6 @@
 // What may be asked of a chart: whether one stands, and whether it covers a point.
 ghost use Rattle.std.specs.Prelude.{◌≡◌};
-ghost use Rattle.charts.specs.Asking.{covering, standingOf, whole_of, askedAt};
+ghost use Rattle.charts.specs.Asking.{covering, standing_of, whole_of, asked_at};
 
 use crate::chart::Chart;
 use kinds::refusal::Refusal;

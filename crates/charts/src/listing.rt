@@ -2,9 +2,9 @@
 ghost use Rattle.std.specs.Prelude.{◌≡◌, ◌+◌, ◌^◌, ◌<◌, ◌≤◌, ◌++◌, length, drop, if◌then◌else◌, slice_set};
 ghost use Rattle.std.specs.List.Sorted.{IsPermutation};
 ghost use Rattle.tables.specs.Queues.{Ascending};
-ghost use Rattle.charts.specs.Ranks.{byCost};
+ghost use Rattle.charts.specs.Ranks.{by_cost};
 ghost use Rattle.charts.specs.Listed.{ListsTruly};
-ghost use Rattle.charts.specs.Listing.{is_at, priced, pricedAt, ListsIn, ListsAt};
+ghost use Rattle.charts.specs.Listing.{is_at, priced, priced_at, ListsIn, ListsAt};
 
 use crate::asking::asked_at;
 use crate::chart::{Chart, Pair, Priced};

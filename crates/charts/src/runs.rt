@@ -1,7 +1,7 @@
 // The run of a pair: the points through which the links of the chart lead from it back to the reel.
 ghost use Rattle.std.specs.Prelude.{◌≡◌, ◌+◌, ◌<◌, length, Some};
 ghost use Rattle.charts.specs.Laid.{LaysTruly};
-ghost use Rattle.charts.specs.Trails.{isHome, next_of, placeAfter, Counts, Reversed, RunsIn, WritesRun};
+ghost use Rattle.charts.specs.Trails.{is_home, next_of, place_after, Counts, Reversed, RunsIn, WritesRun};
 
 use crate::asking::asked_at;
 use crate::chart::{Chart, Pair};

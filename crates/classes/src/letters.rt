@@ -1,6 +1,6 @@
 // The letters of words: a ray forwards or backwards.
 ghost use Rattle.std.specs.Prelude.{◌≡◌, true, Some, refl};
-ghost use Rattle.classes.specs.Letters.{rank_of, turned, letterOf, crossing_of, forwardsOf, letters};
+ghost use Rattle.classes.specs.Letters.{rank_of, turned, letter_of, crossing_of, forwards_of, letters};
 ghost use Rattle.std.specs.Cmp.Rules.{comparing};
 ghost use Rattle.std.proofs.Common.{rules};
 ghost use Rattle.std.specs.Cmp.{partial_order_from_agreeing_total};

@@ -2,7 +2,7 @@
 ghost use Rattle.std.specs.Prelude.{◌≡◌, ◌-◌, ◌≤◌, not};
 ghost use Rattle.kinds.specs.Crossings.{numbered};
 ghost use Rattle.kinds.specs.Classes.{crossed, product};
-ghost use Rattle.classes.specs.Sides.{sides, stored, bit_of, digestOf, Tells};
+ghost use Rattle.classes.specs.Sides.{sides, stored, bit_of, digest_of, Tells};
 ghost use Rattle.std.proofs.Common.{rules};
 
 use kinds::class::Class;

@@ -1,4 +1,6 @@
 // The planner's program. It is thin: what matters stands in the libraries.
+#![tactic(auto)]
+
 use anyhow::anyhow;
 use std::env;
 

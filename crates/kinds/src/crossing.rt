@@ -1,6 +1,6 @@
 // The rays that boulders cast, and what a lane crosses.
 ghost use Rattle.std.specs.Prelude.{◌≡◌};
-ghost use Rattle.kinds.specs.Crossings.{numbered, Numbers, otherWay};
+ghost use Rattle.kinds.specs.Crossings.{numbered, Numbers, other_way};
 
 // One of the seven rays.
 #[derive(Clone, Copy)]

@@ -1,8 +1,8 @@
 // A grid as a map: a record and the memory of its points.
 ghost use Rattle.std.specs.Prelude.{◌≡◌, ◌+◌, ◌-◌, ◌*◌, ◌/◌, ◌%◌, ◌<◌, max, not, ◌&&◌, take};
-ghost use Rattle.kinds.specs.Crossings.{otherWay};
-ghost use Rattle.plans.specs.Grids.{sized, points_of, Inside, place, over, eastward, laneTo, laneAt, gridSite, terrainOf};
-ghost use Rattle.plans.specs.GridsLemmas.{lawful-lanes, lawful-estimates};
+ghost use Rattle.kinds.specs.Crossings.{other_way};
+ghost use Rattle.plans.specs.Grids.{sized, points_of, Inside, place, over, eastward, lane_to, lane_at, grid_site, terrain_of};
+ghost use Rattle.plans.specs.GridsLemmas.{lawful_lanes, lawful_estimates};
 
 use crate::memory::Memory;
 use crate::plan::{Grid, Post};

@@ -3,7 +3,7 @@
 // Byte p of the memory is its risk, and byte 4,096 + p is 1 if it is blocked.
 ghost use Rattle.std.specs.Prelude.{◌≡◌, ℕ, ◌+◌, ◌^◌, ◌<◌, ◌≤◌, true, false, List, [], ◌∷◌, length, MatchOption};
 ghost use Rattle.plans.specs.Plans.{HeadInRange, grid as opening};
-ghost use Rattle.plans.specs.GridPlans.{head_of, postAt, Inside, Opened};
+ghost use Rattle.plans.specs.GridPlans.{head_of, post_at, Inside, Opened};
 ghost use Rattle.plans.specs.Holdings.{blank};
 ghost use Rattle.plans.specs.Grids.{place};
 ghost use Rattle.plans.specs.GridSteps.{Squared, Taken, PostJudged, PostAdded, Holds, Stepped, Run};

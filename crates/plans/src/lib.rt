@@ -1,4 +1,6 @@
 // Plan bytes, and the maps that they describe.
+#![tactic(auto)]
+
 pub mod fault;
 pub mod grid;
 mod grid_plan;

@@ -1,6 +1,6 @@
 // Rays and crossings by their numbers, as plans have them.
 ghost use Rattle.std.specs.Prelude.{◌≡◌};
-ghost use Rattle.plans.specs.Rays.{ahead, isCrossing, crossing_of};
+ghost use Rattle.plans.specs.Rays.{ahead, is_crossing, crossing_of};
 
 use kinds::crossing::{Crossing, Ray};
 

@@ -1,7 +1,7 @@
 // Reading a plan: its bytes in, a record out, and the rest of the plan in the lent memory.
 ghost use Rattle.std.specs.Prelude.{◌≡◌, ◌<◌, ◌≤◌, length, replicate, if◌then◌else◌, Some, Decides, MatchResult};
 ghost use Rattle.kinds.specs.Refusals.{number_of, offset_of};
-ghost use Rattle.plans.specs.Faults.{faultNumber};
+ghost use Rattle.plans.specs.Faults.{fault_number};
 ghost use Rattle.plans.specs.Holdings.{blank};
 ghost use Rattle.plans.specs.Readings.{vacant, Accepted, RefusedAs, Outcome, ReadAs};
 

@@ -1,7 +1,7 @@
 // A roadmap as a map: a record and the memory of its lanes.
 ghost use Rattle.std.specs.Prelude.{◌≡◌, ◌<◌};
-ghost use Rattle.plans.specs.Roads.{few, sound, onward, backward, twoAt, link_at, netOf, roadSite};
-ghost use Rattle.plans.specs.RoadsLemmas.{lawful-lanes, lawful-estimates};
+ghost use Rattle.plans.specs.Roads.{few, sound, onward, backward, two_at, link_at, net_of, road_site};
+ghost use Rattle.plans.specs.RoadsLemmas.{lawful_lanes, lawful_estimates};
 
 use crate::memory::Memory;
 use crate::plan::Road;

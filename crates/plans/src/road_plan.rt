@@ -1,10 +1,10 @@
 // Reading a roadmap: points and lanes, up to the end command.
 ghost use Rattle.std.specs.Prelude.{◌≡◌, ◌+◌, ◌*◌, ◌<◌, ◌≤◌, List, [], ◌∷◌, ◌++◌, length, replicate, IfSome, IfErr, Decides, MatchOption, MatchResult, ◌≢◌};
 ghost use Rattle.tables.specs.Indexes.{Keeps};
-ghost use Rattle.plans.specs.Faults.{faultNumber};
+ghost use Rattle.plans.specs.Faults.{fault_number};
 ghost use Rattle.plans.specs.Plans.{Command, CrossingByte, four, spell, Reads, refused, Fault as Faulty, road as opening, point as pointing, join as joining};
-ghost use Rattle.plans.specs.Surveys.{surveyPlace, surveyAt, numbers};
-ghost use Rattle.plans.specs.RoadPlans.{laneBytes, Accepts};
+ghost use Rattle.plans.specs.Surveys.{survey_place, survey_at, numbers};
+ghost use Rattle.plans.specs.RoadPlans.{lane_bytes, Accepts};
 ghost use Rattle.plans.specs.Holdings.{blank};
 ghost use Rattle.plans.specs.RoadSteps.{put, Finds, Enters, NoEnds, BothEnds, Holds, Takes, Judged, Closes, Goes, Ends};
 ghost use Rattle.plans.specs.Steps.{Fails};

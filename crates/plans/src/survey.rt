@@ -1,6 +1,6 @@
 // The survey numbers in plan memory, as keys of the index: the i-th point's number takes the 4 bytes from 8192 + 4·i, high byte first.
 ghost use Rattle.std.specs.Prelude.{◌≡◌, ◌+◌, ◌≤◌, length};
-ghost use Rattle.plans.specs.Surveys.{number_at, surveyPlace, surveyAt, numbers};
+ghost use Rattle.plans.specs.Surveys.{number_at, survey_place, survey_at, numbers};
 
 use tables::keys::Keys;
 

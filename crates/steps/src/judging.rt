@@ -1,6 +1,6 @@
 // What charting refuses before any search, and what it leaves when it ends.
 ghost use Rattle.std.specs.Prelude.{◌≡◌, ◌*◌, ◌<◌, ◌≤◌, Decides};
-ghost use Rattle.steps.specs.Ends.{Pointless, Judged, VacantPlace, VacantRecord, orTooLarge, keptBy, head_of};
+ghost use Rattle.steps.specs.Ends.{Pointless, Judged, VacantPlace, VacantRecord, or_too_large, kept_by, head_of};
 
 use crate::asked::Asked;
 use crate::open::Open;

@@ -1,5 +1,5 @@
 // Open pairs as they wait to be taken up.
-ghost use Rattle.steps.specs.Opens.{byBound};
+ghost use Rattle.steps.specs.Opens.{by_bound};
 
 use kinds::cost::Cost;
 use std::cmp::Ordering;

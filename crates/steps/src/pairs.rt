@@ -1,6 +1,6 @@
 // The pairs that a search has found, as keys of the index.
 ghost use Rattle.std.specs.Prelude.{◌≡◌};
-ghost use Rattle.steps.specs.Keys.{pairHash, pairKeys, pair_at};
+ghost use Rattle.steps.specs.Keys.{pair_hash, pair_keys, pair_at};
 
 use charts::chart::Pair;
 use charts::finding::is_pair;

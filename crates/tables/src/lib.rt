@@ -1,4 +1,6 @@
 // Tables over lent memory: a hash index, and a queue of waiting elements.
+#![tactic(auto)]
+
 mod heap;
 pub mod index;
 pub mod keys;

@@ -1,4 +1,6 @@
 // Worked examples, proved of the definitions that the contracts use.
+#![tactic(auto)]
+
 ghost use Rattle.worked.specs.Examples.{Examples};
 
 // Does nothing. Its promise is that the worked examples hold.
