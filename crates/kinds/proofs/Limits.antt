@@ -1,5 +1,5 @@
 -- What a run within the limit says of its beginnings.
-use Rattle.std.proofs.Common.{◌≡◌, ℕ, ◌<◌, ◌⊎◌, List, [], ◌∷◌, ◌++◌, Some, None, Option, sym, refl, ap, ◌∙◌, subst, inl, inr}
+use Rattle.std.proofs.Common.{◌≡◌, ℕ, List, [], ◌∷◌, ◌++◌, Some, None, Option, sym, refl, ap, ◌∙◌, subst}
 use Rattle.kinds.specs.declared.lane.Lane.{Lane}
 use Rattle.kinds.specs.Orders.{Under}
 use Rattle.kinds.specs.Maps.{Site, LawfulEstimates}

@@ -1,5 +1,5 @@
 -- Where a run has come to, one lane on.
-use Rattle.std.proofs.Common.{◌≡◌, ℕ, ◌+◌, ◌<◌, ◌≤◌, List, [], ◌∷◌, ◌++◌, length, get_or, take, Some, None, sym, refl, ap, ◌∙◌, subst, inl, inr, arith}
+use Rattle.std.proofs.Common.{◌≡◌, ℕ, ◌+◌, ◌<◌, List, [], ◌∷◌, ◌++◌, length, get_or, take, Some, None, sym, ap, ◌∙◌, subst, inl, inr, arith}
 use lib.Seq.{take-append-le}
 use Rattle.std.proofs.lemmas.List.{take_all, take_more, length_push, get_or_default}
 use Rattle.std.proofs.lemmas.Bool.{cases_lt}
@@ -12,7 +12,7 @@ use Rattle.kinds.specs.declared.pricing.Step.TheVariants.{On, NoLane, NotHeld}
 use Rattle.kinds.specs.declared.pricing.Pricing.TheVariants.{LaneMissing, ClassNotHeld}
 use Rattle.kinds.specs.Maps.{LawfulLanes}
 use Rattle.kinds.specs.Classes.{ClassKind, crossed}
-use Rattle.kinds.specs.Runs.{Run, class_of, cost_of}
+use Rattle.kinds.specs.Runs.{Run, class_of}
 use Rattle.kinds.specs.Pricing.{HeldAlong, Stepped, At, Prices}
 use Rattle.kinds.proofs.Runs.{run_push, class_push, cost_push}
 

@@ -8,9 +8,8 @@ use Rattle.std.specs.Prelude.{◌≡◌, ℕ, ◌<◌, Bool, true, false, ◌⊎
 use Rattle.std.specs.declared.cmp.Ordering.TheVariants.{Less, Equal, Greater}
 use Rattle.std.specs.declared.cmp.Ordering.{Ordering}
 use Rattle.std.proofs.Common.{sym, ap, subst, ◌∙◌, true≢false, inl, inr}
-use Rattle.std.specs.Ordering.{ordering_reverse, ordering_then, is_lt, is_eq, is_gt, MatchOrdering, nat_cmp, bool_cmp}
-use Rattle.std.specs.Cmp.{ranks, nat_cmp_total}
-use Rattle.std.specs.Cmp.Derive.{truths-flip, truths-trans}
+use Rattle.std.specs.Ordering.{ordering_reverse, ordering_then, is_lt, is_eq, MatchOrdering, nat_cmp, bool_cmp}
+use Rattle.std.specs.Cmp.{ranks, tied_itself, nat_cmp_total, bool_cmp_total}
 use Rattle.kinds.specs.Orders.{Ordered}
 
 -- the three answers differ
@@ -28,7 +27,7 @@ pub number_same : (m n : ℕ) → nat_cmp m n ≡ Equal → m ≡ n
 number_same m n e = subst (λ r. MatchOrdering r (m < n) (m ≡ n) (n < m)) e (ranks m n)
 
 pub number_itself : (n : ℕ) → nat_cmp n n ≡ Equal
-number_itself n = sym (nat_cmp_total.says n n Equal refl)
+number_itself n = tied_itself nat_cmp_total n
 
 abbrev pub numbers : Ordered ℕ
 numbers = record { cmp = nat_cmp; same = number_same; itself = number_itself; flip = nat_cmp_total.antisymm; trans = nat_cmp_total.trans }
@@ -45,7 +44,7 @@ bit_itself false = refl
 bit_itself true = refl
 
 abbrev pub bits : Ordered Bool
-bits = record { cmp = bool_cmp; same = bit_same; itself = bit_itself; flip = truths-flip; trans = truths-trans }
+bits = record { cmp = bool_cmp; same = bit_same; itself = bit_itself; flip = bool_cmp_total.antisymm; trans = bool_cmp_total.trans }
 
 -- a comparison in two parts
 pub then_equal : (r s : Ordering) → ordering_then r s ≡ Equal → (r ≡ Equal) × (s ≡ Equal)

@@ -4,7 +4,7 @@
 --     At .. p ns a         the lane numbers ns name a run from p, with held classes along it, that comes to a
 --     Prices .. p ns r     r is the end, class and cost of the run from p along the lane numbers ns;
 --                          or p is no point; or the place of the first number that names no lane; or after how many lanes the class is first not held
-use Rattle.std.specs.Prelude.{◌≡◌, ℕ, ◌+◌, ◌<◌, ◌≤◌, List, [], ◌∷◌, ◌++◌, length, take, Some, None, slice_index_or}
+use Rattle.std.specs.Prelude.{◌≡◌, ℕ, ◌<◌, ◌≤◌, List, [], ◌∷◌, ◌++◌, length, take, Some, None, slice_index_or}
 use Rattle.kinds.specs.declared.lane.Lane.{Lane}
 use Rattle.kinds.specs.declared.map.Map.{Ghosts as Maps}
 use Rattle.kinds.specs.declared.class.Class.{Ghosts as Classes}

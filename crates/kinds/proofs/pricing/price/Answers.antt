@@ -1,4 +1,4 @@
-use Rattle.std.proofs.Common.{◌≡◌, List, [], take, refl, subst, arith}
+use Rattle.std.proofs.Common.{List, [], refl, subst, arith}
 use Rattle.std.proofs.lemmas.List.{take_all}
 use Rattle.kinds.specs.declared.lane.Lane.{Lane}
 use Rattle.kinds.specs.Pricing.{At}
