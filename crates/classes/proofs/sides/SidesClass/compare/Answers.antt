@@ -1,4 +1,4 @@
-use Rattle.std.proofs.Common.{◌≡◌, map, length, refl, sym, ◌∙◌, arith}
+use Rattle.std.proofs.Common.{◌≡◌, length, refl, sym, ◌∙◌, arith}
 use Rattle.kinds.specs.Comparisons.{bits, by_list}
 use Rattle.kinds.proofs.Lexes.{list_from_lex}
 use Rattle.classes.proofs.Parities.{map-stored}

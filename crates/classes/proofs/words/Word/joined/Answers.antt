@@ -1,4 +1,4 @@
-use Rattle.std.proofs.Common.{◌≡◌, take, sym, ◌∙◌, subst, arith, length-set}
+use Rattle.std.proofs.Common.{◌∙◌, subst, arith, length-set}
 use Rattle.classes.specs.Letters.{turned}
 use Rattle.classes.specs.Reduced.{EndsIn}
 use Rattle.classes.proofs.Stored.{cancelled, stored, too_long, reduced_as}

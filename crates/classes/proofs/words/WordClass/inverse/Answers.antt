@@ -1,4 +1,4 @@
-use Rattle.std.proofs.Common.{◌≡◌, ◌+◌, ◌-◌, get_or, take, set, sym, refl, ap, ◌∙◌, subst, arith, length-set}
+use Rattle.std.proofs.Common.{◌+◌, get_or, take, set, sym, refl, ap, ◌∙◌, subst, arith, length-set}
 use Rattle.classes.specs.declared.letters.Letter.TheVariants.{LowerA}
 use Rattle.classes.specs.Letters.{turned}
 use Rattle.classes.specs.Reduced.{Reduced, known, word_same}
