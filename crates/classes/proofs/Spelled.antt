@@ -1,7 +1,7 @@
 -- The word of the crossings that a loop has gone through, one crossing on.
 use Rattle.std.proofs.Common.{◌≡◌, ℕ, ◌+◌, ◌<◌, List, length, get_or, take, Some, None, sym, ap, ◌∙◌}
 use Rattle.kinds.specs.declared.crossing.Crossing.{Crossing}
-use Rattle.kinds.specs.Classes.{crossed, product}
+use Rattle.kinds.specs.Classes.{product}
 use Rattle.kinds.proofs.Products.{product_more}
 use Rattle.classes.specs.declared.letters.Letter.{Letter}
 use Rattle.classes.specs.Letters.{letter_of}

@@ -1,9 +1,9 @@
 -- What one more crossing does to a stored word.
-use Rattle.std.proofs.Common.{◌≡◌, ◌+◌, ◌-◌, ◌<◌, ◌≤◌, List, [], ◌∷◌, length, take, set, Some, None, Option, sym, refl, ap, ◌∙◌, subst, arith, MatchOption}
+use Rattle.std.proofs.Common.{◌≡◌, ◌+◌, ◌-◌, ◌<◌, ◌≤◌, List, length, take, set, Some, None, Option, sym, refl, ap, ◌∙◌, subst, arith, MatchOption}
 use Rattle.std.proofs.lemmas.List.{take-take, take_more_set, length-take-le, length_push}
 use Rattle.kinds.specs.declared.crossing.Crossing.{Crossing}
 use Rattle.kinds.specs.declared.crossing.Crossing.TheVariants as cross
-use Rattle.kinds.specs.Classes.{crossed, After}
+use Rattle.kinds.specs.Classes.{crossed}
 use Rattle.classes.specs.declared.letters.Letter.{Letter}
 use Rattle.classes.specs.declared.words.Word.{Word as Stored}
 use Rattle.classes.specs.Letters.{turned, letter_of}

@@ -8,7 +8,7 @@
 --     bit_of b          1 for true, 0 for false
 --     digest_of f       the hash of parities: their bits as a number, ray 1 the lowest
 use Rattle.std.specs.Prelude.{◌≡◌, ℕ, ◌+◌, ◌-◌, ◌*◌, ◌%◌, Bool, true, false, cond, not, List, [], ◌∷◌, map, get_or, ◌==◌, slice_index_or, refl}
-use Rattle.std.proofs.Common.{sym, ap, ◌∙◌}
+use Rattle.std.proofs.Common.{ap}
 use Rattle.kinds.specs.declared.crossing.Ray.{Ray}
 use Rattle.kinds.specs.declared.crossing.Ray.TheVariants.{One, Two, Three, Four, Five, Six, Seven}
 use Rattle.kinds.specs.declared.crossing.Crossing.{Crossing}
