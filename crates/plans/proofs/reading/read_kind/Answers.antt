@@ -1,7 +1,7 @@
-use Rattle.std.proofs.Common.{◌≡◌, ◌≤◌, ◌∷◌, length, get_or, refl, arith, rules}
+use Rattle.std.proofs.Common.{◌≤◌, length, arith, rules}
 use Rattle.std.proofs.lemmas.List.{nil_from_length}
 use Rattle.plans.proofs.Fronts.{rest, front_letter}
-use Rattle.plans.proofs.PlanKinds.{grid_accepted, road_accepted, stop_within, stop_refused, unknown_refused, empty_refused}
+use Rattle.plans.proofs.PlanKinds.{grid_accepted, road_accepted, stop_within, stop_refused, empty_refused}
 use Rattle.plans.proofs.reading.read_kind.Goals as goal
 
 pub returns-in_default : goal.returns-in_default
