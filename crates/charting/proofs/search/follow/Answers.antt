@@ -16,13 +16,13 @@ returns-in-default g c =
     c.index-places-hand.result (stands_read c.args.places.now c.args.hand c.index-places-hand.result (hand_within (g.M.Map.site c.args.task.now.map.now) (g.met.M.Map.lanes c.args.task.now.map.now) (g.met.M.Map.estimates c.args.task.now.map.now) g.C.Class g.K.Cost c.args.task.now.asked
     c.args.places.now c.args.queue.now c.args.slots.now c.args.hand c.args.number c.args.found c.requires) c.index-places-hand.is) (sym c.in-default.ensures)
 
-pub returns-then-not-is-within : goal.returns-then-not-is-within
-returns-then-not-is-within g c =
+pub returns-then-not-is_within : goal.returns-then-not-is_within
+returns-then-not-is_within g c =
     searching_too_far (g.M.Map.site c.args.task.now.map.now) (g.met.M.Map.lanes c.args.task.now.map.now) (g.met.M.Map.estimates c.args.task.now.map.now) g.C.Class g.K.Cost c.args.task.now.asked
     c.args.places.now c.args.queue.now c.args.slots.now c.args.hand c.args.number c.args.found c.requires
     c.index-places-hand.result (stands_read c.args.places.now c.args.hand c.index-places-hand.result (hand_within (g.M.Map.site c.args.task.now.map.now) (g.met.M.Map.lanes c.args.task.now.map.now) (g.met.M.Map.estimates c.args.task.now.map.now) g.C.Class g.K.Cost c.args.task.now.asked
     c.args.places.now c.args.queue.now c.args.slots.now c.args.hand c.args.number c.args.found c.requires) c.index-places-hand.is)
-    c.in-Some.lane (sym c.in-Some.ensures) c.cost-on-cost.result c.cost-on-cost.ensures (λ w. true≢false (sym (c.is-within.ensures.1 w) ∙ c.if-not-is-within.true))
+    c.in-Some.lane (sym c.in-Some.ensures) c.cost_on-cost.result c.cost_on-cost.ensures (λ w. true≢false (sym (c.is_within.ensures.1 w) ∙ c.if-not-is_within.true))
 
 pub returns-in-default-led : goal.returns-in-default-led
 returns-in-default-led g c =
@@ -30,7 +30,7 @@ returns-in-default-led g c =
     c.args.places.now c.args.queue.now c.args.slots.now c.args.hand c.args.number c.args.found c.requires
     c.index-places-hand.result (stands_read c.args.places.now c.args.hand c.index-places-hand.result (hand_within (g.M.Map.site c.args.task.now.map.now) (g.met.M.Map.lanes c.args.task.now.map.now) (g.met.M.Map.estimates c.args.task.now.map.now) g.C.Class g.K.Cost c.args.task.now.asked
     c.args.places.now c.args.queue.now c.args.slots.now c.args.hand c.args.number c.args.found c.requires) c.index-places-hand.is)
-    c.in-Some.lane (sym c.in-Some.ensures) c.cost-on-cost.result c.cost-on-cost.ensures (c.is-within.ensures.0 c.if-not-is-within.false) c.in-default-led.ensures
+    c.in-Some.lane (sym c.in-Some.ensures) c.cost_on-cost.result c.cost_on-cost.ensures (c.is_within.ensures.0 c.if-not-is_within.false) c.in-default-led.ensures
 
 pub meet-requires : goal.meet-requires
 meet-requires g c = (
@@ -40,7 +40,7 @@ meet-requires g c = (
       c.args.places.now c.args.queue.now c.args.slots.now c.args.hand c.args.number c.args.found c.requires
       c.index-places-hand.result (stands_read c.args.places.now c.args.hand c.index-places-hand.result (hand_within (g.M.Map.site c.args.task.now.map.now) (g.met.M.Map.lanes c.args.task.now.map.now) (g.met.M.Map.estimates c.args.task.now.map.now) g.C.Class g.K.Cost c.args.task.now.asked
       c.args.places.now c.args.queue.now c.args.slots.now c.args.hand c.args.number c.args.found c.requires) c.index-places-hand.is)
-      c.in-Some.lane (sym c.in-Some.ensures) c.cost-on-cost.result c.cost-on-cost.ensures (c.is-within.ensures.0 c.if-not-is-within.false) c.in-Some-led.pair c.in-Some-led.ensures,
+      c.in-Some.lane (sym c.in-Some.ensures) c.cost_on-cost.result c.cost_on-cost.ensures (c.is_within.ensures.0 c.if-not-is_within.false) c.in-Some-led.pair c.in-Some-led.ensures,
 )
 
 pub returns : goal.returns
@@ -51,5 +51,5 @@ returns g c =
     c.args.places.now c.args.queue.now c.args.slots.now c.args.hand c.args.number c.args.found c.requires
     c.index-places-hand.result (stands_read c.args.places.now c.args.hand c.index-places-hand.result (hand_within (g.M.Map.site c.args.task.now.map.now) (g.met.M.Map.lanes c.args.task.now.map.now) (g.met.M.Map.estimates c.args.task.now.map.now) g.C.Class g.K.Cost c.args.task.now.asked
     c.args.places.now c.args.queue.now c.args.slots.now c.args.hand c.args.number c.args.found c.requires) c.index-places-hand.is)
-    c.in-Some.lane (sym c.in-Some.ensures) c.cost-on-cost.result c.cost-on-cost.ensures (c.is-within.ensures.0 c.if-not-is-within.false) c.in-Some-led.pair c.in-Some-led.ensures)
+    c.in-Some.lane (sym c.in-Some.ensures) c.cost_on-cost.result c.cost_on-cost.ensures (c.is_within.ensures.0 c.if-not-is_within.false) c.in-Some-led.pair c.in-Some-led.ensures)
     c.meet.new.places c.meet.new.queue c.meet.new.slots c.meet.result c.meet.ensures
