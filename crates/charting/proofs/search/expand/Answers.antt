@@ -33,4 +33,4 @@ loop-number-preserved g c =
 pub returns : goal.returns
 returns g c =
     searching_past (g.M.Map.site c.args.task.now.map.now) (g.met.M.Map.lanes c.args.task.now.map.now) (g.met.M.Map.estimates c.args.task.now.map.now) g.C.Class g.K.Cost c.args.task.now.asked
-    c.loop-number.places c.loop-number.queue c.loop-number.slots c.args.hand c.loop-number.from c.loop-number.found c.loop-number.invariant c.index-places-hand.result c.index-places-hand.is c.in-default.ensures
+    c.loop-number.places c.loop-number.queue c.loop-number.slots c.args.hand c.loop-number.from c.loop-number.found c.loop-number.invariant c.index-places-hand.result c.index-places-hand.is c.in_default.ensures

@@ -2,12 +2,12 @@ use Rattle.std.proofs.Common.{◌≡◌, ◌-◌, ◌++◌, length, drop, sym, r
 use Rattle.charts.proofs.Trails.{leads_once, nowhere_runs, lost_runs}
 use Rattle.charts.proofs.runs.write_in.Goals as goal
 
-pub returns-in-default : goal.returns-in-default
-returns-in-default g c = (refl, inl (refl, nowhere_runs g.C.Class c.args.reel c.args.pairs.now c.args.point c.args.class.now c.in-default.ensures))
+pub returns-in_default : goal.returns-in_default
+returns-in_default g c = (refl, inl (refl, nowhere_runs g.C.Class c.args.reel c.args.pairs.now c.args.point c.args.class.now c.in_default.ensures))
 
-pub returns-in-default-count_points : goal.returns-in-default-count_points
-returns-in-default-count_points g c =
-    (refl, inl (refl, lost_runs g.C.Class c.args.reel c.args.pairs.now c.args.point c.args.class.now c.in-Some.first c.in-Some.ensures c.in-default-count_points.ensures))
+pub returns-in_default-count_points : goal.returns-in_default-count_points
+returns-in_default-count_points g c =
+    (refl, inl (refl, lost_runs g.C.Class c.args.reel c.args.pairs.now c.args.point c.args.class.now c.in-Some.first c.in-Some.ensures c.in_default-count_points.ensures))
 
 pub returns : goal.returns
 returns g c =
