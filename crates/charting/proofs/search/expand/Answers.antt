@@ -3,8 +3,8 @@ use Rattle.charting.specs.Searches.{Searching}
 use Rattle.charting.proofs.Searches.{hand_within, searching_to, searching_past, next_low}
 use Rattle.charting.proofs.search.expand.Goals as goal
 
-pub offset-bounds-places-hand : goal.offset-bounds-places-hand
-offset-bounds-places-hand g c =
+pub offset_bounds-places-hand : goal.offset_bounds-places-hand
+offset_bounds-places-hand g c =
     let h : c.args.hand < length c.args.places.now = omega (
       arith,
       c.loop-number.auto.places,

@@ -3,8 +3,8 @@ use Rattle.charts.proofs.Stands.{stands_read}
 use Rattle.charting.proofs.Searches.{hand_within, searching_no_lane, searching_too_far, searching_unheld, searching_follows, followed}
 use Rattle.charting.proofs.search.follow.Goals as goal
 
-pub offset-bounds-places-hand : goal.offset-bounds-places-hand
-offset-bounds-places-hand g c =
+pub offset_bounds-places-hand : goal.offset_bounds-places-hand
+offset_bounds-places-hand g c =
     let h : c.args.hand < length c.args.places.now = hand_within (g.M.Map.site c.args.task.now.map.now) (g.met.M.Map.lanes c.args.task.now.map.now) (g.met.M.Map.estimates c.args.task.now.map.now) g.C.Class g.K.Cost c.args.task.now.asked
     c.args.places.now c.args.queue.now c.args.slots.now c.args.hand c.args.number c.args.found c.requires in
     search rules

@@ -13,8 +13,8 @@ bounds-places-at g c =
     c.args.places.now c.args.queue.now c.args.slots.now c.requires.0 c.requires.1 c.args.found c.args.pair c.requires.2
     c.in-Some.at.place c.in-Some.at.slot names has).0
 
-pub offset-bounds-places-at : goal.offset-bounds-places-at
-offset-bounds-places-at g c =
+pub offset_bounds-places-at : goal.offset_bounds-places-at
+offset_bounds-places-at g c =
     let (names, has) = c.in-Some.ensures c.requires.2.searching.indexed in
     let h : c.in-Some.at.place < length c.args.places.now = (met_found (g.M.Map.site c.args.task.now.map.now) (g.met.M.Map.lanes c.args.task.now.map.now) (g.met.M.Map.estimates c.args.task.now.map.now) g.C.Class g.K.Cost c.args.task.now.asked
     c.args.places.now c.args.queue.now c.args.slots.now c.requires.0 c.requires.1 c.args.found c.args.pair c.requires.2
