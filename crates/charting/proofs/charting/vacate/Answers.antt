@@ -1,6 +1,4 @@
 use Rattle.std.proofs.Common.{◌≡◌, ℕ, length, replicate, sym, ap, ◌∙◌, subst, arith}
-use Rattle.charts.specs.declared.chart.Pair.{Pair}
-use Rattle.steps.specs.declared.open.Open.{Open}
 use Rattle.charting.specs.Charts.{VacantPlace, VacantRecord}
 use Rattle.charting.proofs.charting.vacate.Goals as goal
 

@@ -1,4 +1,4 @@
-use Rattle.std.proofs.Common.{◌≡◌, ℕ, List, sym, subst, arith}
+use Rattle.std.proofs.Common.{ℕ, List, sym, subst, arith}
 use Rattle.tables.specs.Indexes.{Names}
 use Rattle.charting.proofs.Renames.{still_names}
 use Rattle.charting.proofs.memory.exchange.Goals as goal

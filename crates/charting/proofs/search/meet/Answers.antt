@@ -1,4 +1,4 @@
-use Rattle.std.proofs.Common.{◌≡◌, ℕ, ◌+◌, ◌<◌, ◌≤◌, true, false, List, length, sym, refl, ◌∙◌, subst, true≢false, arith, rules}
+use Rattle.std.proofs.Common.{◌+◌, ◌<◌, List, length, sym, refl, subst, true≢false, rules}
 use Rattle.charts.specs.declared.chart.Pair.{Pair}
 use Rattle.charting.specs.Searches.{Searching}
 use Rattle.charts.proofs.Stands.{stands_read}

@@ -1,5 +1,4 @@
-use Rattle.std.proofs.Common.{◌≡◌, ℕ, ◌+◌, ◌-◌, ◌<◌, ◌≤◌, length, get_or, sym, refl, ◌∙◌, arith}
-use Rattle.tables.specs.Indexes.{Names}
+use Rattle.std.proofs.Common.{◌-◌, get_or, refl}
 use Rattle.tables.specs.Queues.{waiting}
 use Rattle.charting.proofs.Searches.{taken_reads, searching_taken}
 use Rattle.charting.proofs.search.take_up.Goals as goal

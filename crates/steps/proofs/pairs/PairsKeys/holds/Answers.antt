@@ -1,4 +1,4 @@
-use Rattle.std.proofs.Common.{◌≡◌, arith}
+use Rattle.std.proofs.Common.{arith}
 use Rattle.std.proofs.lemmas.Bool.{ltb-true}
 use Rattle.steps.proofs.Keys.{pair_decides, pair_not_past}
 use Rattle.steps.proofs.pairs.PairsKeys.holds.Goals as goal
