@@ -1,19 +1,19 @@
 -- The search over the places of a list: each step keeps `Progress`, and a chart with nothing open is finished.
-use Rattle.std.proofs.Common.{◌≡◌, ℕ, zero, suc, ◌+◌, ◌<◌, ◌≤◌, ◌≢◌, ◌⊎◌, List, [], ◌∷◌, length, get_or, take, set, Some, None, Option, Less, sym, refl, ap, ◌∙◌, subst, inl, inr, arith, length-set, length-take-le}
+use Rattle.std.proofs.Common.{◌≡◌, ℕ, ◌+◌, ◌<◌, ◌≤◌, ◌⊎◌, List, length, get_or, take, set, Some, None, Option, Less, sym, refl, ap, ◌∙◌, subst, inl, inr, arith, length-set, length-take-le}
 use Rattle.std.proofs.lemmas.Bool.{cases_eq, cases_lt}
 use Rattle.kinds.specs.declared.lane.Lane.{Lane}
 use Rattle.kinds.specs.Orders.{Under}
 use Rattle.kinds.specs.Maps.{Site, Lawful}
 use Rattle.kinds.specs.Classes.{ClassKind, crossed}
 use Rattle.kinds.specs.Costs.{CostKind}
-use Rattle.kinds.specs.Reaches.{RunsAt, Cheapest, Reach, tail, Within}
-use Rattle.charting.specs.Searching.{Pairs, Nothing, Only, Known, NoDearer, onward, Closed, Searched, NoLater, Soonest}
+use Rattle.kinds.specs.Reaches.{Cheapest, Reach, tail, Within}
+use Rattle.charting.specs.Searching.{Pairs, Nothing, Only, Known, NoDearer, onward, Searched, NoLater, Soonest}
 use Rattle.charts.specs.declared.chart.Pair.{Pair}
-use Rattle.charts.specs.Charts.{Stands, Is, Holds, Sound, Precedes, Linked, Finished, Apart, Crowded, Unheld}
+use Rattle.charts.specs.Charts.{Stands, Is, Holds, Precedes, Linked, Finished, Crowded, Unheld}
 use Rattle.charting.specs.Places.{Span, Distinct, Links, Progress}
-use Rattle.kinds.proofs.Orders.{answers, under_refl, under_of_eq, under_trans, under_or_above, under_total, less_not_under, less_of_greater, under_of_not_greater}
-use Rattle.kinds.proofs.Runs.{runs_at_reel, runs_at_lane}
-use Rattle.kinds.proofs.Limits.{run_bound, cost_grows}
+use Rattle.kinds.proofs.Orders.{under_of_eq, under_trans, less_not_under}
+use Rattle.kinds.proofs.Runs.{runs_at_reel}
+use Rattle.kinds.proofs.Limits.{run_bound}
 use Rattle.charts.proofs.Stands.{stands_some, stands_unique, stands-set-same, stands-set_other, stands_unset, stands-take, stands_untake}
 use Rattle.charting.proofs.Picks.{done}
 use Rattle.charting.proofs.Settles.{started, found_runs, found_reach, lane_reach, settled_no_dearer, resaid, finished, no_lane, too_far, no_cheaper, opened, taken}

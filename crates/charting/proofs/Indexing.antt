@@ -1,14 +1,14 @@
 -- The index of the found pairs, while places are swapped, added and written.
-use Rattle.std.proofs.Common.{◌≡◌, ℕ, ◌+◌, ◌<◌, ◌≤◌, ◌⊎◌, List, length, get_or, take, set, Some, None, sym, refl, ap, ◌∙◌, subst, inl, inr, arith, length-set, length-take-le}
+use Rattle.std.proofs.Common.{◌≡◌, ℕ, ◌+◌, ◌<◌, ◌≤◌, List, length, get_or, take, set, Some, None, sym, refl, ap, ◌∙◌, subst, inl, inr, arith, length-set, length-take-le}
 use Rattle.std.proofs.lemmas.Bool.{cases_eq, cases_lt}
 use Rattle.kinds.specs.declared.class.Class.{Ghosts as Classes}
 use Rattle.tables.specs.declared.index.Found.{Found}
-use Rattle.tables.specs.Indexes.{Names, Absent, Indexed, Covers, Swapped}
+use Rattle.tables.specs.Indexes.{Names, Absent, Indexed, Covers}
 use Rattle.tables.proofs.Renaming.{indexed_elsewhere, names_once}
 use Rattle.tables.proofs.Swapping.{rewritten, indexed_swapped}
 use Rattle.charts.specs.declared.chart.Pair.{Pair}
 use Rattle.charts.specs.Charts.{Stands}
-use Rattle.charts.proofs.Stands.{stands_some, stands_read, stands_unique, stands-set-same, stands-set_other, stands-take, stands_untake}
+use Rattle.charts.proofs.Stands.{stands_some, stands_unique, stands-set-same, stands-set_other, stands-take, stands_untake}
 use Rattle.steps.specs.Keys.{pair_keys, pairing, pair_of, pair_at}
 use Rattle.steps.proofs.Keys.{pair_at-stands, pair_past, at_pair}
 

@@ -1,9 +1,7 @@
 -- The order in which open pairs are taken up: by bound, then by cost. It is reflexive, transitive and total.
-use Rattle.std.proofs.Common.{◌≡◌, ℕ, true, false, ◌⊎◌, Option, Ordering, Less, Equal, Greater, sym, refl, ap, ◌∙◌, subst, inl, inr, true≢false}
-use Rattle.kinds.specs.declared.lane.Lane.{Lane}
+use Rattle.std.proofs.Common.{◌≡◌, ℕ, ◌⊎◌, Option, Ordering, Less, Equal, Greater, sym, refl, ap, ◌∙◌, subst, inl, inr, true≢false}
 use Rattle.kinds.specs.Orders.{Under}
-use Rattle.kinds.specs.Maps.{Site, Lawful}
-use Rattle.kinds.specs.Classes.{ClassKind, crossed}
+use Rattle.kinds.specs.Maps.{Site}
 use Rattle.kinds.specs.Costs.{CostKind}
 use Rattle.kinds.specs.Reaches.{tail}
 use Rattle.std.specs.Ordering.{is_gt, ordering_then}
@@ -11,7 +9,7 @@ use Rattle.tables.specs.Orders.{AtMost}
 use Rattle.steps.specs.declared.open.Open.{Open}
 use Rattle.steps.specs.Opens.{by_bound}
 use Rattle.charting.specs.Searching.{NoLater}
-use Rattle.kinds.proofs.Orders.{answers, under_refl, under_of_eq, under_trans, under_or_above, under_total, less_not_under, less_of_greater, under_of_not_greater}
+use Rattle.kinds.proofs.Orders.{answers, under_refl, under_trans, under_total, less_of_greater, under_of_not_greater}
 
 module _ {K : Type 0} (m : Site) (k : CostKind K) (aim : Option ℕ) where
   pub no_later_refl : (p : ℕ) (c : K) → NoLater m k aim p c p c

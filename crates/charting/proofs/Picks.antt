@@ -1,5 +1,5 @@
 -- Why the least open pair is at its cheapest, and why nothing is missed once none is open.
-use Rattle.std.proofs.Common.{◌≡◌, ℕ, ◌<◌, ◌⊎◌, List, [], ◌∷◌, ◌++◌, Some, None, Option, Less, sym, refl, ap, ◌∙◌, subst, inl, inr}
+use Rattle.std.proofs.Common.{ℕ, ◌⊎◌, List, [], ◌∷◌, Option, sym, ◌∙◌, subst, inl, inr}
 use Rattle.kinds.specs.declared.lane.Lane.{Lane}
 use Rattle.kinds.specs.Orders.{Under}
 use Rattle.kinds.specs.Maps.{Site, Lawful}
@@ -7,9 +7,8 @@ use Rattle.kinds.specs.Classes.{ClassKind, crossed}
 use Rattle.kinds.specs.Costs.{CostKind}
 use Rattle.kinds.specs.Runs.{Run, class_of, cost_of}
 use Rattle.kinds.specs.Reaches.{RunsAt, Cheapest, Reach, tail, Within}
-use Rattle.charting.specs.Searching.{Pairs, Nothing, Only, Known, NoDearer, onward, Closed, Searched, NoLater, Soonest}
-use Rattle.kinds.proofs.Orders.{answers, under_refl, under_of_eq, under_trans, under_or_above, under_total, less_not_under, less_of_greater, under_of_not_greater}
-use Rattle.kinds.proofs.Runs.{runs_at_reel, runs_at_lane}
+use Rattle.charting.specs.Searching.{Pairs, Nothing, Known, NoDearer, Searched, NoLater, Soonest}
+use Rattle.kinds.proofs.Orders.{under_trans, under_or_above, less_not_under}
 use Rattle.kinds.proofs.Limits.{run_bound, cost_grows}
 
 module _ {K : Type 0} (m : Site) (law : Lawful m) (G : ClassKind) (k : CostKind K) (reel : ℕ) (aim : Option ℕ) (cable : ℕ) where

@@ -1,15 +1,13 @@
 -- More pairs than places cannot all have one; and what a list of pairs, place by place, says of the chart.
-use Rattle.std.proofs.Common.{◌≡◌, ℕ, zero, suc, ◌+◌, ◌<◌, ◌≤◌, ◌≢◌, ◌⊎◌, List, [], ◌∷◌, map, length, get_or, Option, sym, refl, ap, ◌∙◌, subst, inl, inr, suc-le-suc, zero-le, arith}
+use Rattle.std.proofs.Common.{◌≡◌, ℕ, zero, suc, ◌<◌, ◌≤◌, ◌⊎◌, List, [], ◌∷◌, map, length, get_or, Option, sym, refl, ap, ◌∙◌, subst, inl, inr, suc-le-suc, zero-le, arith}
 use lib.ListN.{length-map}
 use Rattle.std.proofs.lemmas.List.{get_or-map}
-use Rattle.kinds.specs.declared.lane.Lane.{Lane}
-use Rattle.kinds.specs.Orders.{Under}
-use Rattle.kinds.specs.Maps.{Site, Lawful}
-use Rattle.kinds.specs.Classes.{ClassKind, crossed}
+use Rattle.kinds.specs.Maps.{Site}
+use Rattle.kinds.specs.Classes.{ClassKind}
 use Rattle.kinds.specs.Costs.{CostKind}
-use Rattle.kinds.specs.Reaches.{RunsAt, Cheapest, Reach, tail, Within}
+use Rattle.kinds.specs.Reaches.{Cheapest, Reach}
 use Rattle.charts.specs.declared.chart.Pair.{Pair}
-use Rattle.charts.specs.Charts.{Stands, Is, Holds, Sound, Precedes, Linked, Finished, Apart, Crowded, Unheld}
+use Rattle.charts.specs.Charts.{Stands, Is, Holds, Sound, Apart, Crowded}
 use Rattle.charting.specs.Places.{Distinct}
 use Rattle.charts.proofs.Stands.{stands_some}
 

@@ -1,21 +1,18 @@
 -- Each step of a search keeps what holds in all of its memory.
-use Rattle.std.proofs.Common.{◌≡◌, ℕ, zero, suc, ◌+◌, ◌-◌, ◌*◌, ◌<◌, ◌≤◌, ◌⊎◌, List, [], ◌∷◌, length, get_or, take, set, replicate, Some, None, Option, Less, sym, refl, ap, ◌∙◌, subst, inl, inr, add-zero, arith, length-set, MatchOption}
-use Rattle.std.specs.List.Sorted.{IsPermutation}
+use Rattle.std.proofs.Common.{◌≡◌, ℕ, zero, suc, ◌+◌, ◌-◌, ◌*◌, ◌<◌, ◌≤◌, List, ◌∷◌, length, get_or, take, set, replicate, Some, None, Option, Less, sym, refl, ap, ◌∙◌, subst, inl, inr, add-zero, arith, length-set, MatchOption}
 use Rattle.std.specs.List.{ContainsAt as Has, AllByRecursion as All}
 use Rattle.std.proofs.lemmas.List.Sorted.{IsPermutation-sym, IsPermutation-trans}
 use Rattle.std.proofs.ByRecursion.{all-has}
 use Rattle.kinds.specs.declared.lane.Lane.{Lane}
 use Rattle.kinds.specs.declared.class.Class.{Ghosts as Classes}
 use Rattle.kinds.specs.declared.cost.Cost.{Ghosts as Costs}
-use Rattle.kinds.specs.Orders.{Under}
 use Rattle.kinds.specs.Maps.{Site, LawfulLanes, LawfulEstimates, Lawful, Next}
 use Rattle.kinds.specs.Classes.{crossed}
 use Rattle.kinds.specs.Reaches.{tail, Within}
 use Rattle.tables.specs.declared.queue.Queue.{Queue}
-use Rattle.tables.specs.declared.index.Inserted.TheVariants as inserted
 use Rattle.tables.specs.Orders.{AtMost}
 use Rattle.tables.specs.Queues.{places, waiting, Kept, Popped}
-use Rattle.tables.specs.Indexes.{Names, Absent, Indexed, Covers, Inserts}
+use Rattle.tables.specs.Indexes.{Names, Absent, Indexed}
 use Rattle.tables.proofs.Meeting.{names_within}
 use Rattle.tables.proofs.Swapping.{rewritten}
 use Rattle.tables.proofs.Clearing.{slice_index_or-vacant, indexed_vacant}
@@ -27,19 +24,19 @@ use Rattle.charts.proofs.Stands.{stands_some, stands_unique, stands-set-same, st
 use Rattle.steps.specs.declared.asked.Asked.{Asked}
 use Rattle.steps.specs.declared.open.Open.{Open}
 use Rattle.steps.specs.Opens.{by_bound}
-use Rattle.steps.specs.Keys.{pair_keys, pairing, pair_of, pair_at}
+use Rattle.steps.specs.Keys.{pair_keys, pair_of, pair_at}
 use Rattle.charting.specs.Searching.{onward, NoLater}
 use Rattle.charting.specs.Places.{Progress}
 use Rattle.charting.specs.Waits.{Serves, Waits}
 use Rattle.charting.specs.Steps.{Swaps, Adds, Lowers}
 use Rattle.steps.specs.Leads.{Leads}
-use Rattle.charting.specs.Searches.{Sized, Searching, Comes, Follows, Refused, Complete}
+use Rattle.charting.specs.Searches.{Sized, Searching, Follows, Refused, Complete}
 use Rattle.kinds.proofs.Orders.{under_of_not_less}
 use Rattle.charting.proofs.Elements.{taken_out, nil_from_length}
 use Rattle.charting.proofs.Laters.{no_later_from_at_most, at_most_from_cheaper}
 use Rattle.charting.proofs.Advances.{progress_taken, progress_open, progress_no_lane, progress_too_far, progress_no_cheaper, progress_lowered, progress_added, progress_crowded, progress_unheld, progress_closed, progress_started, progress_nothing, progress_finished, progress_exact}
 use Rattle.charting.proofs.Waits.{taken_serves, waits_taken, waits_lowered, waits_added, waits_none}
-use Rattle.charting.proofs.Indexing.{one_name, named_found, key_of, of_key, indexed_exchanged, indexed_next, key_next, absent_next, indexed_again}
+use Rattle.charting.proofs.Indexing.{one_name, key_of, of_key, indexed_exchanged, indexed_next, key_next, absent_next, indexed_again}
 
 module _ {C K : Type 0} (m : Site) (lanes : LawfulLanes m) (estimates : LawfulEstimates m) (b : Classes C) (c : Costs K) (q : Asked) where
   abbrev law : Lawful m

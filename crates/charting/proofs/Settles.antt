@@ -1,15 +1,14 @@
 -- How the search goes on: it starts at the reel, takes up the least open pair, and follows that pair's lanes one by one.
-use Rattle.std.proofs.Common.{◌≡◌, ℕ, ◌+◌, ◌<◌, ◌≤◌, ◌⊎◌, Some, None, Option, sym, refl, ap, ◌∙◌, subst, inl, inr, arith, below_more}
+use Rattle.std.proofs.Common.{◌≡◌, ℕ, ◌+◌, ◌<◌, ◌≤◌, ◌⊎◌, Some, None, Option, sym, refl, subst, inl, inr, arith, below_more}
 use Rattle.kinds.specs.declared.lane.Lane.{Lane}
 use Rattle.kinds.specs.Orders.{Under}
 use Rattle.kinds.specs.Maps.{Site, Lawful}
 use Rattle.kinds.specs.Classes.{ClassKind, crossed}
 use Rattle.kinds.specs.Costs.{CostKind}
-use Rattle.kinds.specs.Reaches.{RunsAt, Cheapest, Reach, tail, Within}
-use Rattle.charting.specs.Searching.{Pairs, Nothing, Only, Known, NoDearer, onward, Closed, Searched, NoLater, Soonest}
-use Rattle.kinds.proofs.Orders.{answers, under_refl, under_of_eq, under_trans, under_or_above, under_total, less_not_under, less_of_greater, under_of_not_greater}
+use Rattle.kinds.specs.Reaches.{RunsAt, Cheapest, Reach, Within}
+use Rattle.charting.specs.Searching.{Pairs, Nothing, Only, Known, NoDearer, onward, Closed, Searched, Soonest}
+use Rattle.kinds.proofs.Orders.{under_refl, under_trans}
 use Rattle.kinds.proofs.Runs.{runs_at_reel, runs_at_lane}
-use Rattle.kinds.proofs.Limits.{run_bound, cost_grows}
 use Rattle.charting.proofs.Picks.{pick}
 
 -- a fact of the one pair is a fact of each of F, if F has no other

@@ -1,22 +1,22 @@
 -- The open pairs go on waiting: one is taken up, one is added, one is lowered.
-use Rattle.std.proofs.Common.{◌≡◌, ℕ, ◌+◌, ◌<◌, ◌≤◌, true, false, cond, eqb, ◌⊎◌, List, [], ◌∷◌, length, get_or, set, Option, sym, refl, ap, ◌∙◌, subst, inl, inr, arith, length-set}
+use Rattle.std.proofs.Common.{◌≡◌, ℕ, ◌+◌, ◌<◌, ◌≤◌, cond, eqb, List, [], ◌∷◌, length, get_or, set, Option, sym, refl, ap, ◌∙◌, subst, inl, inr, arith}
 use Rattle.std.specs.List.Sorted.{IsPermutation}
 use Rattle.std.specs.List.{ContainsAt as Has, AllByRecursion as All}
-use Rattle.std.proofs.ByRecursion.{All-weaker, all-has, all_shuffled, has_shuffled}
-use Rattle.std.proofs.lemmas.List.Sorted.{sum_by-IsPermutation, length_permutation, IsPermutation-sym, IsPermutation-trans}
+use Rattle.std.proofs.ByRecursion.{All-weaker, all_shuffled, has_shuffled}
+use Rattle.std.proofs.lemmas.List.Sorted.{sum_by-IsPermutation, length_permutation}
 use Rattle.std.proofs.lemmas.List.Sums.{sum_by-cons}
-use Rattle.std.proofs.lemmas.Bool.{cases_eq, eqb-false, eq-eqb, ne_eqb}
+use Rattle.std.proofs.lemmas.Bool.{cases_eq, eq-eqb, ne_eqb}
 use Rattle.kinds.specs.Maps.{Site}
 use Rattle.kinds.specs.Costs.{CostKind}
 use Rattle.kinds.specs.Reaches.{tail}
 use Rattle.tables.specs.Indexes.{Names}
-use Rattle.tables.proofs.Swapping.{rewritten, names_first, names_last, slice_index_or_rewritten}
+use Rattle.tables.proofs.Swapping.{rewritten, names_last, slice_index_or_rewritten}
 use Rattle.charts.specs.declared.chart.Pair.{Pair}
 use Rattle.charts.specs.Charts.{Stands}
 use Rattle.charts.proofs.Stands.{stands_unique, stands-set-same, stands_unset}
 use Rattle.steps.specs.declared.open.Open.{Open}
 use Rattle.charting.specs.Waits.{waiting_at, Serves, Waits}
-use Rattle.charting.proofs.Elements.{has_first, has_later, has_cases, taken_out}
+use Rattle.charting.proofs.Elements.{has_first, has_later, has_cases}
 
 module _ {K : Type 0} (s : ℕ) where
   pub one_more : (x : Open K) (ws : List (Open K)) → waiting_at s (x ∷ ws) ≡ cond (eqb x.slot s) 1 0 + waiting_at s ws

@@ -1,5 +1,5 @@
 -- The chart while it is made: the places of a list. Assumes nothing.
-use Rattle.std.specs.Prelude.{◌≡◌, ℕ, ◌<◌, ◌≤◌, ◌⊎◌, List, [], ◌∷◌, length, get_or, Some, None, Option}
+use Rattle.std.specs.Prelude.{◌≡◌, ℕ, ◌<◌, ◌≤◌, ◌⊎◌, List, length, Some, None, Option}
 use Rattle.kinds.specs.Maps.{Site}
 use Rattle.kinds.specs.Classes.{ClassKind}
 use Rattle.kinds.specs.Costs.{CostKind}

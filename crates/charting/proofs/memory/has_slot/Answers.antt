@@ -1,4 +1,4 @@
-use Rattle.std.proofs.Common.{◌≡◌, sym, ap, ◌∙◌}
+use Rattle.std.proofs.Common.{ap, ◌∙◌}
 use Rattle.tables.specs.Queues.{waiting}
 use Rattle.charts.proofs.Stands.{stands_read, stands_unique}
 use Rattle.steps.specs.declared.open.Open.{Open}

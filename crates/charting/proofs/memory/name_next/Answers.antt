@@ -1,4 +1,4 @@
-use Rattle.std.proofs.Common.{◌+◌, ◌<◌, length, take, set, arith, length-take-le}
+use Rattle.std.proofs.Common.{◌+◌, take, arith}
 use Rattle.steps.specs.Keys.{pair_keys, pair_at, pair_of}
 use Rattle.tables.proofs.Crowding.{not_full_from_few}
 use Rattle.charting.proofs.Indexing.{keys_few}

@@ -1,5 +1,3 @@
-use Rattle.std.proofs.Common.{◌≡◌, ◌+◌, true, false, length, get_or, sym, ◌∙◌, inl, inr, arith}
-use Rattle.tables.proofs.Meeting.{names_within}
 use Rattle.charting.proofs.Renames.{renamed}
 use Rattle.charting.proofs.memory.rename.Goals as goal
 
