@@ -9,7 +9,7 @@ loop-probe-preserved c =
     let slots = c.args.slots.now in
     let (j, stands, taken) = c.loop-probe.invariant.1 in
     let left = c.loop-probe-test.true in
-    let here = at_way (λ e. e ≡ 0 → ⊥) slots stands left (λ z. false≢true (c.if-is-vacant.ensures.1 z)) in
+    let here = at_way (λ e. e ≡ 0 → ⊥) slots stands left (λ z. false≢true (c.if-is_vacant.ensures.1 z)) in
     let on = stands_more stands left c.advance-probe.ensures.turn c.advance-probe.ensures.next c.advance-probe.ensures.wraps in
     (stands_within on, (j + 1, on, below_more (λ q. on_way slots c.args.hash q ≡ 0 → ⊥) j taken here))
 
