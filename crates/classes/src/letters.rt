@@ -3,7 +3,7 @@ ghost use Rattle.std.specs.Prelude.{◌≡◌, true, Some, refl};
 ghost use Rattle.classes.specs.Letters.{rank_of, turned, letter_of, crossing_of, forwards_of, letters};
 ghost use Rattle.std.specs.Cmp.Rules.{comparing};
 ghost use Rattle.std.proofs.Common.{rules};
-ghost use Rattle.std.specs.Cmp.{partial_order_from_agreeing_total};
+ghost use Rattle.std.specs.Cmp.{partial_order_from_agreeing_total, on_total, nat_cmp_total};
 
 use kinds::crossing::{Crossing, Ray};
 use std::cmp::Ordering;
@@ -109,7 +109,7 @@ impl Letter {
 impl PartialOrd for Letter {
     ghost partial_cmp = { λ x y. Some (letters.cmp x y) };
 
-    ghost laws = { partial_order_from_agreeing_total (λ x y. letters.cmp x y) (Prim.search (comparing, rules)) (λ _ _. refl) (Prim.search (comparing, rules)) };
+    ghost laws = { partial_order_from_agreeing_total (λ x y. letters.cmp x y) (on_total rank_of nat_cmp_total) (λ _ _. refl) (Prim.search (comparing, rules)) };
 
     fn partial_cmp(&self, other: &Letter) -> Option<Ordering> {
         Some(self.cmp(other))
@@ -120,7 +120,7 @@ impl PartialOrd for Letter {
 impl Ord for Letter {
     ghost cmp = { λ x y. letters.cmp x y };
 
-    ghost total = { Prim.search (comparing, rules) };
+    ghost total = { on_total rank_of nat_cmp_total };
 
     ghost matches_partial_cmp = { Prim.search (comparing, rules) };
 

@@ -19,7 +19,7 @@ pub returns-else-cancels : goal.returns-else-cancels
 returns-else-cancels c =
     let h = subst (λ w. EndsIn w (turned c.args.more) → ⊥) c.deref.ensures.value c.if-cancels.ensures in
     record {
-      items = c.push-reserved.ensures.items ∙ lengthened c.args.word.now.items c.args.more c.requires.reduced h;
+      items = c.push_reserved.ensures.items ∙ lengthened c.args.word.now.items c.args.more c.requires.reduced h;
       bound = search rules;
       capacity = search rules;
     }

@@ -8,7 +8,7 @@ pub loop-letter-preserved : goal.loop-letter-preserved
 loop-letter-preserved c =
     let xs = c.args.word.now in
     let i = c.loop-letter.letter-index in
-    ap (λ h. hashed h (drop (i + 1) xs)) c.hash-more-sum.ensures ∙ sym (at_drop_more (hashed c.loop-letter.sum) xs i LowerA (omega arith)) ∙ c.loop-letter.invariant
+    ap (λ h. hashed h (drop (i + 1) xs)) c.hash_more-sum.ensures ∙ sym (at_drop_more (hashed c.loop-letter.sum) xs i LowerA (omega arith)) ∙ c.loop-letter.invariant
 
 pub returns : goal.returns
 returns c = sym (at_drop_all (hashed c.loop-letter.sum) c.args.word.now c.loop-letter.letter-index (omega arith)) ∙ c.loop-letter.invariant

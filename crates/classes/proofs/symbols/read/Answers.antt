@@ -8,12 +8,12 @@ loop-place-preserved c =
     let cs = c.args.symbols.now in
     let i = c.loop-place.place in
     let d = c.index-symbols-place.result in (
-      ap (map symbol_of) c.push-reserved.ensures.items
+      ap (map symbol_of) c.push_reserved.ensures.items
           ∙ map_push symbol_of (vec_items c.loop-place.crossings) c.in-Some.next
           ∙ (λ j. c.loop-place.invariant.0 j ++ (c.in-Some.ensures ∙ c.index-symbols-place.is) j ∷ [])
           ∙ sym (take_more cs i d (omega arith)),
-      omega (arith, c.push-reserved.ensures.len, c.loop-place.invariant.1),
-      omega (arith, c.push-reserved.ensures.capacity, c.loop-place.invariant.2),
+      omega (arith, c.push_reserved.ensures.len, c.loop-place.invariant.1),
+      omega (arith, c.push_reserved.ensures.capacity, c.loop-place.invariant.2),
     )
 
 pub returns : goal.returns

@@ -11,7 +11,7 @@ pub loop-crossing-preserved : goal.loop-crossing-preserved
 loop-crossing-preserved c =
     let xs = c.args.crossings.now in
     let i = c.loop-crossing.crossing-index in
-    c.crossed-by-all.ensures ∙ ap (λ f. sides.mul f (crossed sides (get_or xs i cross.None))) c.loop-crossing.invariant ∙ sym (product_more sides xs i cross.None (omega arith))
+    c.crossed_by-all.ensures ∙ ap (λ f. sides.mul f (crossed sides (get_or xs i cross.None))) c.loop-crossing.invariant ∙ sym (product_more sides xs i cross.None (omega arith))
 
 pub returns : goal.returns
 returns c =

@@ -15,14 +15,14 @@ loop-place-preserved c =
     let ms = c.loop-place.letters in
     let i = c.loop-place.place in (
       length-set ms i c.opposite.result ∙ c.loop-place.invariant.0,
-      ap (λ a. take (i + 1) (set ms i a)) (c.opposite.ensures ∙ ap (λ k. turned (get_or s.letters k LowerA)) c.from-end.ensures) ∙ mirror_more s.letters ms s.len i (omega (arith, s.room)) (omega arith) (omega (arith, c.loop-place.invariant.0, s.short)) c.loop-place.invariant.1,
+      ap (λ a. take (i + 1) (set ms i a)) (c.opposite.ensures ∙ ap (λ k. turned (get_or s.letters k LowerA)) c.from_end.ensures) ∙ mirror_more s.letters ms s.len i (omega (arith, s.room)) (omega arith) (omega (arith, c.loop-place.invariant.0, s.short)) c.loop-place.invariant.1,
     )
 
-pub invariant-of-result : goal.invariant-of-result
-invariant-of-result c =
+pub invariant_of-result : goal.invariant_of-result
+invariant_of-result c =
     let s = c.args.self.now in
     let e = mirror-all s.letters c.loop-place.letters s.len c.loop-place.place (omega arith) c.loop-place.invariant.1 in
-    (c.loop-place.invariant.0, (s.short, (∣ subst Reduced (sym e) (inverse (known (take s.len s.letters) s.reduced)).1 ∣₁, tt)))
+    record { room = c.loop-place.invariant.0; short = s.short; reduced = ∣ subst Reduced (sym e) (inverse (known (take s.len s.letters) s.reduced)).1 ∣₁ }
 
 pub returns : goal.returns
 returns c =
