@@ -1,5 +1,5 @@
 -- What reading answers of a whole plan, from what is read behind its first letter.
-use Rattle.std.proofs.Common.{◌≡◌, ℕ, ◌≤◌, List, [], ◌∷◌, length, Some, sym, refl, ap, ◌∙◌, subst, inl, inr, arith}
+use Rattle.std.proofs.Common.{◌≡◌, ℕ, ◌≤◌, List, [], ◌∷◌, length, Some, sym, refl, ap, subst, inl, inr, arith}
 use Rattle.kinds.specs.declared.refusal.Refusal.{Refusal}
 use Rattle.kinds.specs.declared.refusal.Refusal.TheVariants.{NotAPlan}
 use Rattle.kinds.specs.Refusals.{number_of, offset_of}

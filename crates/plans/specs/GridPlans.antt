@@ -9,11 +9,11 @@
 --     Tells cs g m        the record and every byte of the memory are what the commands say
 --     Accepts bytes g m   the bytes are an accepted plan, and the record and the memory tell its commands
 --     Opened bytes m r    what reading answers: a record so, or the refusal that the bytes read as
-use Rattle.std.specs.Prelude.{◌≡◌, ℕ, ◌+◌, ◌-◌, ◌*◌, ◌<◌, ◌≤◌, cond, ◌&&◌, eqb, ◌⊎◌, List, [], ◌∷◌, ◌++◌, length, get_or, replicate, Ok, Err, Result}
+use Rattle.std.specs.Prelude.{ℕ, ◌<◌, List, Ok, Err, Result}
 use Rattle.plans.specs.declared.plan.Grid.{Grid}
 use Rattle.plans.specs.declared.plan.Post.{Post}
 use Rattle.plans.specs.declared.fault.Stop.{Stop}
-use Rattle.plans.specs.Plans.{Head, grid, Command, post, block, weigh, point, join, posts, Reads, accepted, refused}
+use Rattle.plans.specs.Plans.{Head, grid, Command, Reads, accepted, refused}
 use Rattle.plans.specs.Faults.{fault_number}
 use Rattle.plans.specs.Holdings.{GridTells}
 

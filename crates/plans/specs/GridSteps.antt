@@ -15,7 +15,7 @@ use Rattle.plans.specs.declared.fault.Stop.{Stop}
 use Rattle.plans.specs.declared.fault.Fault.{Fault}
 use Rattle.plans.specs.declared.fault.Fault.TheVariants.{UnknownCommand, CutShort, OutOfRange, GivenTwice, BadEnds, TooMany, AfterEnd}
 use Rattle.plans.specs.Steps.{Begins, Fails}
-use Rattle.plans.specs.Plans.{Head, Command, post, block, weigh, point, join, spell, spell-all, Good, AllGood}
+use Rattle.plans.specs.Plans.{Head, Command, post, block, weigh, point, join, spell, Good}
 use Rattle.plans.specs.Plans.{Fault as Faulty}
 use Rattle.plans.specs.Faults.{fault_number}
 use Rattle.plans.specs.GridPlans.{head_of}

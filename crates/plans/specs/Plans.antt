@@ -7,7 +7,7 @@
 --     Ended              its ends are known and differ
 --     Room               it is not one too many
 --     Reads              the plan is accepted with these commands, or refused with this number at this offset
-use Rattle.std.specs.Prelude.{◌≡◌, ℕ, ◌+◌, ◌-◌, ◌*◌, ◌/◌, ◌%◌, ◌<◌, ◌≤◌, ◌⊎◌, List, [], ◌∷◌, ◌++◌, length, ◌≢◌}
+use Rattle.std.specs.Prelude.{◌≡◌, ℕ, ◌+◌, ◌/◌, ◌%◌, ◌<◌, ◌≤◌, ◌⊎◌, List, [], ◌∷◌, ◌++◌, length, ◌≢◌}
 
 pub data Head : Type 0 where
   grid : ℕ → ℕ → ℕ → Head  -- width, height, spacing

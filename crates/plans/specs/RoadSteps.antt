@@ -16,8 +16,8 @@ use Rattle.std.specs.Prelude.{◌≡◌, ℕ, ◌+◌, ◌<◌, ◌≤◌, cond,
 use Rattle.tables.specs.declared.index.Inserted.{Inserted}
 use Rattle.tables.specs.Indexes.{Absent, Indexed, Covers, Inserts}
 use Rattle.plans.specs.declared.plan.Road.{Road}
-use Rattle.plans.specs.Steps.{Begins, Fails}
-use Rattle.plans.specs.Plans.{Head, road, Command, post, block, weigh, point, join, spell, spell-all, InRange, Fresh, Ended, Room, Good, AllGood, Fault, joins}
+use Rattle.plans.specs.Steps.{Begins}
+use Rattle.plans.specs.Plans.{Head, road, Command, post, block, weigh, point, join, spell, InRange, Fresh, Ended, Room, Good, joins}
 use Rattle.plans.specs.Surveys.{numbers}
 use Rattle.plans.specs.Meanings.{surveys_of, index_of}
 use Rattle.plans.specs.RoadPlans.{image}

@@ -6,17 +6,17 @@ use Rattle.plans.proofs.GridFaults.{fault_short, fault_range}
 use Rattle.plans.proofs.GridWrites.{holds_block}
 use Rattle.plans.proofs.grid_plan.read_block.Goals as goal
 
-pub returns-in-default : goal.returns-in-default
-returns-in-default c = (omega arith, λ cs h. fault_short (head_of c.args.grid.now) cs 66 2 c.args.operands.now (inr (inl (refl, refl))) (search rules))
+pub returns-in_default : goal.returns-in_default
+returns-in_default c = (omega arith, λ cs h. fault_short (head_of c.args.grid.now) cs 66 2 c.args.operands.now (inr (inl (refl, refl))) (search rules))
 
-pub returns-in-default-place-of : goal.returns-in-default-place-of
-returns-in-default-place-of c =
+pub returns-in_default-place_of : goal.returns-in_default-place_of
+returns-in_default-place_of c =
     let xs = c.args.operands.now in
     let two : 2 ≤ length xs = search rules in (
       omega arith,
       λ cs h.
           fault_range (head_of c.args.grid.now) cs (block (get_or xs 0 0) (get_or xs 1 0)) (66 ∷ xs) (rest 2 xs) (ap (λ ys. 66 ∷ ys) (front 2 xs two)) tt
-          c.in-default-place-of.ensures,
+          c.in_default-place_of.ensures,
     )
 
 pub returns : goal.returns

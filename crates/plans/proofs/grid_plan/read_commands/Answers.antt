@@ -28,8 +28,8 @@ loop-next-preserved c =
       ),
     )
 
-pub overflow-sub-commands : goal.overflow-sub-commands
-overflow-sub-commands c =
+pub overflow_sub-commands : goal.overflow_sub-commands
+overflow_sub-commands c =
     let inv = c.loop-next.invariant in
     omega (arith, length_begins (head_of c.args.grid.now) c.args.commands.now inv.1.0 c.loop-next.left.now inv.1.1)
 

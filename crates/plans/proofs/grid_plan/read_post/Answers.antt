@@ -6,8 +6,8 @@ use Rattle.plans.proofs.GridFaults.{fault_short, fault_post}
 use Rattle.plans.proofs.GridWrites.{holds_post}
 use Rattle.plans.proofs.grid_plan.read_post.Goals as goal
 
-pub returns-in-default : goal.returns-in-default
-returns-in-default c = record {
+pub returns-in_default : goal.returns-in_default
+returns-in_default c = record {
   head = search rules;
   said = λ m. (omega arith, λ cs h. fault_short (head_of c.args.grid.now) cs 82 2 c.args.operands.now (inl (refl, refl)) (search rules));
 }
@@ -17,7 +17,7 @@ returns-in-Ok c =
     let xs = c.args.operands.now in
     let two : 2 ≤ length xs = search rules in
     record {
-      head = c.add-post.ensures.head;
+      head = c.add_post.ensures.head;
       said = λ m. (
         rest_shorter 2 xs,
         λ cs h.
@@ -26,7 +26,7 @@ returns-in-Ok c =
               command = post (get_or xs 0 0) (get_or xs 1 0);
               spelled = ap (λ ys. 82 ∷ ys) (front 2 xs two);
               good = done.0;
-              holds = holds_post cs c.args.grid.now c.add-post.new.self m (get_or xs 0 0) (get_or xs 1 0) c.add-post.ensures.head h done.1;
+              holds = holds_post cs c.args.grid.now c.add_post.new.self m (get_or xs 0 0) (get_or xs 1 0) c.add_post.ensures.head h done.1;
             },
       );
     }
@@ -36,7 +36,7 @@ returns-in-Err c =
     let xs = c.args.operands.now in
     let two : 2 ≤ length xs = search rules in
     record {
-      head = c.add-post.ensures.head;
+      head = c.add_post.ensures.head;
       said = λ m. (
         omega arith,
         λ cs h.

@@ -6,17 +6,17 @@ use Rattle.plans.proofs.GridFaults.{fault_short, fault_range}
 use Rattle.plans.proofs.GridWrites.{holds_weigh}
 use Rattle.plans.proofs.grid_plan.read_weigh.Goals as goal
 
-pub returns-in-default : goal.returns-in-default
-returns-in-default c = (omega arith, λ cs h. fault_short (head_of c.args.grid.now) cs 87 3 c.args.operands.now (inr (inr (refl, refl))) (search rules))
+pub returns-in_default : goal.returns-in_default
+returns-in_default c = (omega arith, λ cs h. fault_short (head_of c.args.grid.now) cs 87 3 c.args.operands.now (inr (inr (refl, refl))) (search rules))
 
-pub returns-in-default-place-of : goal.returns-in-default-place-of
-returns-in-default-place-of c =
+pub returns-in_default-place_of : goal.returns-in_default-place_of
+returns-in_default-place_of c =
     let xs = c.args.operands.now in
     let three : 3 ≤ length xs = search rules in (
       omega arith,
       λ cs h.
           fault_range (head_of c.args.grid.now) cs (weigh (get_or xs 0 0) (get_or xs 1 0) (get_or xs 2 0)) (87 ∷ xs) (rest 3 xs) (ap (λ ys. 87 ∷ ys) (front 3 xs three)) tt
-          c.in-default-place-of.ensures,
+          c.in_default-place_of.ensures,
     )
 
 pub returns : goal.returns

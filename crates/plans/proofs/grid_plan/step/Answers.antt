@@ -6,8 +6,8 @@ use Rattle.plans.proofs.Fronts.{rest, front, front_letter}
 use Rattle.plans.proofs.GridFaults.{fault_none}
 use Rattle.plans.proofs.grid_plan.step.Goals as goal
 
-pub returns-in-default : goal.returns-in-default
-returns-in-default c = record {
+pub returns-in_default : goal.returns-in_default
+returns-in_default c = record {
   head = search rules;
   said = (omega arith, λ cs h. fault_none (head_of c.args.grid.now) cs c.args.left.now (nil_from_length c.args.left.now (search rules)));
 }
@@ -18,8 +18,8 @@ returns-in-R c =
     let one : 1 ≤ length xs = search rules in
     let m = c.args.memory.now in
     record {
-      head = c.read-post.ensures.head;
-      said = subst (λ (ys : List ℕ). Stepped c.args.grid.now m ys c.read-post.new.grid m c.read-post.result) (sym (front_letter xs 82 one (omega arith))) (c.read-post.ensures.said m);
+      head = c.read_post.ensures.head;
+      said = subst (λ (ys : List ℕ). Stepped c.args.grid.now m ys c.read_post.new.grid m c.read_post.result) (sym (front_letter xs 82 one (omega arith))) (c.read_post.ensures.said m);
     }
 
 pub returns-in-B : goal.returns-in-B
@@ -29,7 +29,7 @@ returns-in-B c =
     let g = c.args.grid.now in
     record {
       head = search rules;
-      said = subst (λ (ys : List ℕ). Stepped g c.args.memory.now ys g c.read-block.new.memory c.read-block.result) (sym (front_letter xs 66 one (omega arith))) c.read-block.ensures;
+      said = subst (λ (ys : List ℕ). Stepped g c.args.memory.now ys g c.read_block.new.memory c.read_block.result) (sym (front_letter xs 66 one (omega arith))) c.read_block.ensures;
     }
 
 pub returns-in-W : goal.returns-in-W
@@ -39,7 +39,7 @@ returns-in-W c =
     let g = c.args.grid.now in
     record {
       head = search rules;
-      said = subst (λ (ys : List ℕ). Stepped g c.args.memory.now ys g c.read-weigh.new.memory c.read-weigh.result) (sym (front_letter xs 87 one (omega arith))) c.read-weigh.ensures;
+      said = subst (λ (ys : List ℕ). Stepped g c.args.memory.now ys g c.read_weigh.new.memory c.read_weigh.result) (sym (front_letter xs 87 one (omega arith))) c.read_weigh.ensures;
     }
 
 pub returns-in-E : goal.returns-in-E

@@ -2,17 +2,17 @@ use Rattle.std.proofs.Common.{◌≡◌, ℕ, ◌<◌, true, false, sym, refl, �
 use Rattle.plans.proofs.RoadHoldings.{ended_found, unended_absent, holds_join}
 use Rattle.plans.proofs.road_plan.add_lane.Goals as goal
 
-pub returns-in-default : goal.returns-in-default
-returns-in-default c cs h =
+pub returns-in_default : goal.returns-in_default
+returns-in_default c cs h =
     let a = c.args.join in
-    let range = c.is-in-range.ensures.0 c.if-not-is-in-range.false in
-    inr (inr (inl (range, tt, unended_absent cs c.args.counts.now c.args.memory.now c.args.slots.now h a.first a.second c.in-default.ensures, refl)))
+    let range = c.is_in_range.ensures.0 c.if-not-is_in_range.false in
+    inr (inr (inl (range, tt, unended_absent cs c.args.counts.now c.args.memory.now c.args.slots.now h a.first a.second c.in_default.ensures, refl)))
 
-pub returns-then-not-has-lane-room : goal.returns-then-not-has-lane-room
-returns-then-not-has-lane-room c cs h =
+pub returns-then-not-has_lane_room : goal.returns-then-not-has_lane_room
+returns-then-not-has_lane_room c cs h =
     let a = c.args.join in
     let counts = c.args.counts.now in
-    let range = c.is-in-range.ensures.0 c.if-not-is-in-range.false in
+    let range = c.is_in_range.ensures.0 c.if-not-is_in_range.false in
     let ends = ended_found cs counts c.args.memory.now c.args.slots.now h a.first a.second c.in-Some.first c.in-Some.second c.in-Some.ensures in
     inr (inr (inr (
       range,
@@ -20,7 +20,7 @@ returns-then-not-has-lane-room c cs h =
       ends,
       (λ room.
           let few : counts.lanes < 1024 = omega (arith, h.joined) in
-          let z : false ≡ true = sym c.if-not-has-lane-room.true ∙ c.has-lane-room.ensures.1 few in
+          let z : false ≡ true = sym c.if-not-has_lane_room.true ∙ c.has_lane_room.ensures.1 few in
           let y : ◌≡◌ {A = ℕ} 0 1 = cc in omega arith),
       refl,
     )))
@@ -31,11 +31,11 @@ returns c cs h =
     let m = c.args.memory.now in
     let slots = c.args.slots.now in
     let counts = c.args.counts.now in
-    let range = c.is-in-range.ensures.0 c.if-not-is-in-range.false in
+    let range = c.is_in_range.ensures.0 c.if-not-is_in_range.false in
     let found = c.in-Some.ensures in
     let ends = ended_found cs counts m slots h a.first a.second c.in-Some.first c.in-Some.second found in
-    let few : counts.lanes < 1024 = c.has-lane-room.ensures.0 c.if-not-has-lane-room.false in (
+    let few : counts.lanes < 1024 = c.has_lane_room.ensures.0 c.if-not-has_lane_room.false in (
       (tt, range, tt, ends, omega (arith, h.joined)),
       holds_join cs counts m slots h a.first a.second a.length a.risk a.crossing c.in-Some.first c.in-Some.second
-          c.write-lane.new.memory c.write-lane.ensures found.1 found.2 few,
+          c.write_lane.new.memory c.write_lane.ensures found.1 found.2 few,
     )

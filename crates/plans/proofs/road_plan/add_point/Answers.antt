@@ -5,29 +5,29 @@ use Rattle.plans.proofs.RoadSurveys.{length_surveys}
 use Rattle.plans.proofs.RoadHoldings.{some_found, none_found, surveyed_found, unsurveyed_absent, holds_point}
 use Rattle.plans.proofs.road_plan.add_point.Goals as goal
 
-pub returns-then-is-some : goal.returns-then-is-some
-returns-then-is-some c cs h =
+pub returns-then-is_some : goal.returns-then-is_some
+returns-then-is_some c cs h =
     let m = c.args.memory.now in
     let slots = c.args.slots.now in
     let counts = c.args.counts.now in
     let n = c.args.survey in
-    let found = some_found (survey_at m counts.points) slots n c.point-of.result c.point-of.ensures (sym c.is-some.ensures ∙ c.if-is-some.true) in
+    let found = some_found (survey_at m counts.points) slots n c.point_of.result c.point_of.ensures (sym c.is_some.ensures ∙ c.if-is_some.true) in
     inr (inl (tt, (λ fresh. fresh (surveyed_found cs counts m slots h found.0 n found.1)), refl))
 
-pub returns-then-not-has-point-room : goal.returns-then-not-has-point-room
-returns-then-not-has-point-room c cs h =
+pub returns-then-not-has_point_room : goal.returns-then-not-has_point_room
+returns-then-not-has_point_room c cs h =
     let m = c.args.memory.now in
     let slots = c.args.slots.now in
     let counts = c.args.counts.now in
     let n = c.args.survey in
-    let none = none_found (survey_at m counts.points) slots n c.point-of.result c.point-of.ensures (sym c.is-some.ensures ∙ c.if-is-some.false) in
+    let none = none_found (survey_at m counts.points) slots n c.point_of.result c.point_of.ensures (sym c.is_some.ensures ∙ c.if-is_some.false) in
     inr (inr (inr (
       tt,
       unsurveyed_absent cs counts m slots h n none,
       tt,
       (λ room.
           let few : counts.points < 512 = omega (arith, h.counted, length_surveys cs) in
-          let z : false ≡ true = sym c.if-not-has-point-room.true ∙ c.has-point-room.ensures.1 few in
+          let z : false ≡ true = sym c.if-not-has_point_room.true ∙ c.has_point_room.ensures.1 few in
           let y : ◌≡◌ {A = ℕ} 0 1 = cc in omega arith),
       refl,
     )))
@@ -38,10 +38,10 @@ returns c cs h =
     let slots = c.args.slots.now in
     let counts = c.args.counts.now in
     let n = c.args.survey in
-    let to = c.enter-point.new.slots in
-    let none = none_found (survey_at m counts.points) slots n c.point-of.result c.point-of.ensures (sym c.is-some.ensures ∙ c.if-is-some.false) in
+    let to = c.enter_point.new.slots in
+    let none = none_found (survey_at m counts.points) slots n c.point_of.result c.point_of.ensures (sym c.is_some.ensures ∙ c.if-is_some.false) in
     let fresh : Surveyed cs n → ⊥ = unsurveyed_absent cs counts m slots h n none in
-    let few : counts.points < 512 = c.has-point-room.ensures.0 c.if-not-has-point-room.false in (
+    let few : counts.points < 512 = c.has_point_room.ensures.0 c.if-not-has_point_room.false in (
       (tt, tt, fresh, tt, omega (arith, h.counted, length_surveys cs)),
-      holds_point cs counts m slots h n c.write-survey.new.memory to c.write-survey.ensures fresh few c.enter-point.ensures.placed c.enter-point.ensures.kept,
+      holds_point cs counts m slots h n c.write_survey.new.memory to c.write_survey.ensures fresh few c.enter_point.ensures.placed c.enter_point.ensures.kept,
     )

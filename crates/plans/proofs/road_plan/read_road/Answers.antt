@@ -3,4 +3,4 @@ use Rattle.std.proofs.lemmas.List.{length-replicate}
 use Rattle.plans.proofs.road_plan.read_road.Goals as goal
 
 pub vacate-requires : goal.vacate-requires
-vacate-requires c = c.read-indexed-answer.auto.slots ∙ ap length c.requires.vacant ∙ length-replicate {A = ℕ} 1024 0
+vacate-requires c = c.read_indexed-answer.auto.slots ∙ ap length c.requires.vacant ∙ length-replicate {A = ℕ} 1024 0

@@ -18,8 +18,8 @@ loop-next-preserved c =
     let more = begins_push road bytes cs left x next begins spelled good in
     (cs ++ (x ∷ []), subst (λ (left : Bor (List ℕ)). Begins road bytes (cs ++ (x ∷ [])) left.now) (sym c.in-Ok-Some.next-is) more, holding)
 
-pub overflow-sub-result : goal.overflow-sub-result
-overflow-sub-result c =
+pub overflow_sub-result : goal.overflow_sub-result
+overflow_sub-result c =
     let (cs, begins, _) = c.loop-next.invariant in
     omega (arith, length_begins road c.args.commands.now cs c.loop-next.left.now begins)
 

@@ -7,19 +7,19 @@ use Rattle.plans.proofs.Fronts.{front_letter}
 use Rattle.plans.proofs.RoadFaults.{fault_none, fault_more, fault_short, fault_judged}
 use Rattle.plans.proofs.road_plan.step.Goals as goal
 
-pub returns-in-default : goal.returns-in-default
-returns-in-default c = record { within = omega arith; after = λ cs h. fault_none road cs c.args.left.now (search rules) }
+pub returns-in_default : goal.returns-in_default
+returns-in_default c = record { within = omega arith; after = λ cs h. fault_none road cs c.args.left.now (search rules) }
 
-pub returns-in-default-take-number : goal.returns-in-default-take-number
-returns-in-default-take-number c = record {
+pub returns-in_default-take_number : goal.returns-in_default-take_number
+returns-in_default-take_number c = record {
   within = omega arith;
-  after = λ cs h. fault_short road cs c.args.left.now 4 (search rules) (inl (omega arith, refl)) c.in-default-take-number.ensures;
+  after = λ cs h. fault_short road cs c.args.left.now 4 (search rules) (inl (omega arith, refl)) c.in_default-take_number.ensures;
 }
 
-pub returns-in-default-take-join : goal.returns-in-default-take-join
-returns-in-default-take-join c = record {
+pub returns-in_default-take_join : goal.returns-in_default-take_join
+returns-in_default-take_join c = record {
   within = omega arith;
-  after = λ cs h. fault_short road cs c.args.left.now 12 (search rules) (inr (omega arith, refl)) c.in-default-take-join.ensures;
+  after = λ cs h. fault_short road cs c.args.left.now 12 (search rules) (inr (omega arith, refl)) c.in_default-take_join.ensures;
 }
 
 pub returns-in-Ok : goal.returns-in-Ok
@@ -45,29 +45,29 @@ returns-in-Err c =
           (front_letter xs 80 one (omega arith) ∙ ap (λ ys. 80 ∷ ys) c.in-Some.ensures) tt (c.in-Err.ensures cs h);
     }
 
-pub returns-in-Ok-add-lane : goal.returns-in-Ok-add-lane
-returns-in-Ok-add-lane c =
+pub returns-in-Ok-add_lane : goal.returns-in-Ok-add_lane
+returns-in-Ok-add_lane c =
     let xs = c.args.left.now in
-    let a = c.in-Some-take-join.join in
+    let a = c.in-Some-take_join.join in
     let x : Command = join a.first a.second a.length a.risk a.crossing in
     let one : 1 ≤ length xs = search rules in
-    let spelled : xs ≡ spell x ++ c.in-Some-take-join.next.now = front_letter xs 65 one (omega arith) ∙ c.in-Some-take-join.ensures in
+    let spelled : xs ≡ spell x ++ c.in-Some-take_join.next.now = front_letter xs 65 one (omega arith) ∙ c.in-Some-take_join.ensures in
     record {
-      within = omega (arith, ap length spelled, length-append (spell x) c.in-Some-take-join.next.now);
-      after = λ cs h. (x, spelled, c.in-Ok-add-lane.ensures cs h);
+      within = omega (arith, ap length spelled, length-append (spell x) c.in-Some-take_join.next.now);
+      after = λ cs h. (x, spelled, c.in-Ok-add_lane.ensures cs h);
     }
 
-pub returns-in-Err-add-lane : goal.returns-in-Err-add-lane
-returns-in-Err-add-lane c =
+pub returns-in-Err-add_lane : goal.returns-in-Err-add_lane
+returns-in-Err-add_lane c =
     let xs = c.args.left.now in
-    let a = c.in-Some-take-join.join in
+    let a = c.in-Some-take_join.join in
     let x : Command = join a.first a.second a.length a.risk a.crossing in
     let one : 1 ≤ length xs = search rules in
     record {
       within = omega arith;
       after = λ cs h.
-          fault_judged road cs xs x c.in-Some-take-join.next.now (fault_number c.in-Err-add-lane.fault)
-          (front_letter xs 65 one (omega arith) ∙ c.in-Some-take-join.ensures) tt (c.in-Err-add-lane.ensures cs h);
+          fault_judged road cs xs x c.in-Some-take_join.next.now (fault_number c.in-Err-add_lane.fault)
+          (front_letter xs 65 one (omega arith) ∙ c.in-Some-take_join.ensures) tt (c.in-Err-add_lane.ensures cs h);
     }
 
 pub returns-in-E : goal.returns-in-E

@@ -8,5 +8,5 @@ returns c =
     let xs = c.args.bytes.now in
     let enough : 4 ≤ length xs = search rules in
     front 4 xs enough
-    ∙ four_bytes (get_or xs 0 0) (get_or xs 1 0) (get_or xs 2 0) (get_or xs 3 0) c.from-be-bytes.result (rest 4 xs) c.from-be-bytes.ensures
-    (omega (arith, c.type-inv.bytes 1)) (omega (arith, c.type-inv.bytes 2)) (omega (arith, c.type-inv.bytes 3))
+    ∙ four_bytes (get_or xs 0 0) (get_or xs 1 0) (get_or xs 2 0) (get_or xs 3 0) c.from_be_bytes.result (rest 4 xs) c.from_be_bytes.ensures
+    (omega (arith, c.type_inv.bytes 1)) (omega (arith, c.type_inv.bytes 2)) (omega (arith, c.type_inv.bytes 3))

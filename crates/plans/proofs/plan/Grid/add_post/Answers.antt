@@ -7,7 +7,7 @@ pub returns : goal.returns
 returns c = record {
   head = search rules;
   added = λ cs h.
-      let fine = c.in-ok-judge-post.ensures in
+      let fine = c.in_ok-judge_post.ensures in
       let room : posts cs < 7 = omega (arith, h.counted, fine.2) in (
         (tt, fine.0, fresh_from_free cs c.args.self.now c.args.column h fine.1, tt, room),
         placed_push cs c.args.self.now c.args.column c.args.row c.fill.new.self c.fill.ensures h room,
