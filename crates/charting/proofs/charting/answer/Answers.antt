@@ -10,13 +10,13 @@ returns-in-Some g c =
 
 pub search-requires : goal.search-requires
 search-requires g c = record {
-  here = reel_here (g.M.Map.site c.args.map.now) c.args.asked (judged_lawful (g.M.Map.site c.args.map.now) c.args.asked c.judge.result c.judge.ensures c.in-default.is).0;
+  here = reel_here (g.M.Map.site c.args.map.now) c.args.asked (judged_lawful (g.M.Map.site c.args.map.now) c.args.asked c.judge.result c.judge.ensures c.in_default.is).0;
   fits = c.requires;
 }
 
 pub returns : goal.returns
 returns g c =
-    let (np, le) = judged_lawful (g.M.Map.site c.args.map.now) c.args.asked c.judge.result c.judge.ensures c.in-default.is in
+    let (np, le) = judged_lawful (g.M.Map.site c.args.map.now) c.args.asked c.judge.result c.judge.ensures c.in_default.is in
     let same : length c.search.new.places ≡ length c.args.places.now = omega (arith, c.search.auto.places) in
     subst (λ (r : Result ℕ Refusal). Answers (g.M.Map.site c.args.map.now) g.C.Class g.K.Cost c.args.asked (length c.args.places.now) c.search.new.places r) (sym c.answered.ensures)
     (search_answers (g.M.Map.site c.args.map.now) g.C.Class g.K.Cost c.args.asked (length c.args.places.now) c.search.new.places c.search.result np le same c.search.ensures)

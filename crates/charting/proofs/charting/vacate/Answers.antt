@@ -6,8 +6,8 @@ use Rattle.charting.proofs.charting.vacate.Goals as goal
 
 pub returns : goal.returns
 returns g c = record {
-  kept = c.fill-from.ensures.kept;
-  places = λ i d low high. subst (VacantPlace g.C.Class g.K.Cost) (sym (c.fill-from.ensures.filled i d low high)) c.vacant-place.ensures;
-  queue = λ i d high. subst (VacantRecord g.K.Cost) (sym (c.fill-from-2.ensures.filled i d (omega arith) high)) c.vacant-record.ensures;
+  kept = c.fill_from.ensures.kept;
+  places = λ i d low high. subst (VacantPlace g.C.Class g.K.Cost) (sym (c.fill_from.ensures.filled i d low high)) c.vacant_place.ensures;
+  queue = λ i d high. subst (VacantRecord g.K.Cost) (sym (c.fill_from-2.ensures.filled i d (omega arith) high)) c.vacant_record.ensures;
   slots = c.clear.ensures ∙ ap (λ n. replicate {A = ℕ} n 0) (let e : length c.args.slots.now ≡ length c.clear.new.slots = omega (arith, c.clear.auto.slots) in e);
 }

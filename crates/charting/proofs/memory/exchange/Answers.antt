@@ -8,7 +8,7 @@ rename-requires-2 g c = record {
   low = omega (arith, c.requires.here, c.requires.room, c.requires.few);
   taken = (
     c.args.other,
-    subst (λ (slots : List ℕ). Names slots c.slot-of-other-slot.result c.args.other) (sym c.rename.ensures)
-        (still_names c.args.slots.now c.args.slot c.slot-of-other-slot.result c.args.place c.args.other c.requires.named c.slot-of-other-slot.ensures),
+    subst (λ (slots : List ℕ). Names slots c.slot_of-other_slot.result c.args.other) (sym c.rename.ensures)
+        (still_names c.args.slots.now c.args.slot c.slot_of-other_slot.result c.args.place c.args.other c.requires.named c.slot_of-other_slot.ensures),
   );
 }

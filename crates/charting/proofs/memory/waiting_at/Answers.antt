@@ -12,7 +12,7 @@ loop-place-preserved g c =
     let lt : c.loop-place.place < length (waiting c.args.queue.now) = omega (arith, c.len-place-end.ensures.len, c.loop-place-test.true) in
     let (w, at) = stands_some (waiting c.args.queue.now) c.loop-place.place lt in
     All-more (λ v. v.slot ≡ c.args.slot → ⊥) (waiting c.args.queue.now) c.loop-place.place w lt c.loop-place.invariant
-    (λ e. c.if-has-slot.ensures w lt at (ap (λ (v : Open g.row.K.Denot). v.slot) (sym (at w)) ∙ e))
+    (λ e. c.if-has_slot.ensures w lt at (ap (λ (v : Open g.row.K.Denot). v.slot) (sym (at w)) ∙ e))
 
 pub returns : goal.returns
 returns g c =

@@ -3,8 +3,8 @@ use Rattle.charting.specs.Searches.{Searching}
 use Rattle.charting.proofs.Searches.{hand_within, searching_to, searching_past, next_low}
 use Rattle.charting.proofs.search.expand.Goals as goal
 
-pub offset-bounds-places-hand : goal.offset-bounds-places-hand
-offset-bounds-places-hand g c =
+pub offset_bounds-places-hand : goal.offset_bounds-places-hand
+offset_bounds-places-hand g c =
     let h : c.args.hand < length c.args.places.now = omega (
       arith,
       c.loop-number.auto.places,
@@ -33,4 +33,4 @@ loop-number-preserved g c =
 pub returns : goal.returns
 returns g c =
     searching_past (g.M.Map.site c.args.task.now.map.now) (g.met.M.Map.lanes c.args.task.now.map.now) (g.met.M.Map.estimates c.args.task.now.map.now) g.C.Class g.K.Cost c.args.task.now.asked
-    c.loop-number.places c.loop-number.queue c.loop-number.slots c.args.hand c.loop-number.from c.loop-number.found c.loop-number.invariant c.index-places-hand.result c.index-places-hand.is c.in-default.ensures
+    c.loop-number.places c.loop-number.queue c.loop-number.slots c.args.hand c.loop-number.from c.loop-number.found c.loop-number.invariant c.index-places-hand.result c.index-places-hand.is c.in_default.ensures

@@ -10,17 +10,17 @@ loop-places-preserved g c = c.in-Some.ensures
 pub loop-places-smaller : goal.loop-places-smaller
 loop-places-smaller g c =
     let h = c.loop-places-test.ensures in
-    omega (arith, h.progress.found, h.progress.room, c.expand.auto.places, c.take-up.auto.places)
+    omega (arith, h.progress.found, h.progress.room, c.expand.auto.places, c.take_up.auto.places)
 
-pub overflow-add-settled : goal.overflow-add-settled
-overflow-add-settled g c =
+pub overflow_add-settled : goal.overflow_add-settled
+overflow_add-settled g c =
     let h = c.loop-places-test.ensures in
     let low : c.loop-places.settled < 4096 = omega (arith, h.progress.found, h.progress.room, h.sized.few) in
     search rules
 
 pub returns-in-None : goal.returns-in-None
 returns-in-None g c =
-    let same : length c.take-up.new.places ≡ length c.args.places.now = omega (arith, c.take-up.auto.places, c.loop-places.auto.places) in
+    let same : length c.take_up.new.places ≡ length c.args.places.now = omega (arith, c.take_up.auto.places, c.loop-places.auto.places) in
     subst (Refused (g.M.Map.site c.args.task.now.map.now) g.C.Class g.K.Cost c.args.task.now.asked) same c.in-None.ensures
 
 pub returns : goal.returns

@@ -13,16 +13,16 @@ bounds-places-at g c =
     c.args.places.now c.args.queue.now c.args.slots.now c.requires.0 c.requires.1 c.args.found c.args.pair c.requires.2
     c.in-Some.at.place c.in-Some.at.slot names has).0
 
-pub offset-bounds-places-at : goal.offset-bounds-places-at
-offset-bounds-places-at g c =
+pub offset_bounds-places-at : goal.offset_bounds-places-at
+offset_bounds-places-at g c =
     let (names, has) = c.in-Some.ensures c.requires.2.searching.indexed in
     let h : c.in-Some.at.place < length c.args.places.now = (met_found (g.M.Map.site c.args.task.now.map.now) (g.met.M.Map.lanes c.args.task.now.map.now) (g.met.M.Map.estimates c.args.task.now.map.now) g.C.Class g.K.Cost c.args.task.now.asked
     c.args.places.now c.args.queue.now c.args.slots.now c.requires.0 c.requires.1 c.args.found c.args.pair c.requires.2
     c.in-Some.at.place c.in-Some.at.slot names has).0 in
     search rules
 
-pub overflow-cast-at : goal.overflow-cast-at
-overflow-cast-at g c =
+pub overflow_cast-at : goal.overflow_cast-at
+overflow_cast-at g c =
     let (names, has) = c.in-Some.ensures c.requires.2.searching.indexed in
     let h : c.in-Some.at.slot < 65536 = (met_found (g.M.Map.site c.args.task.now.map.now) (g.met.M.Map.lanes c.args.task.now.map.now) (g.met.M.Map.estimates c.args.task.now.map.now) g.C.Class g.K.Cost c.args.task.now.asked
     c.args.places.now c.args.queue.now c.args.slots.now c.requires.0 c.requires.1 c.args.found c.args.pair c.requires.2
@@ -37,39 +37,39 @@ lower-requires g c =
       room = within;
       waits = met_waits (g.M.Map.site c.args.task.now.map.now) (g.met.M.Map.lanes c.args.task.now.map.now) (g.met.M.Map.estimates c.args.task.now.map.now) g.C.Class g.K.Cost c.args.task.now.asked
           c.args.places.now c.args.queue.now c.args.slots.now c.requires.0 c.requires.1 c.args.found c.args.pair c.requires.2
-          c.in-Some.at.place c.in-Some.at.slot names has c.index-places-at.result (stands_read c.args.places.now c.in-Some.at.place c.index-places-at.result within c.index-places-at.is) (c.is-cheaper.ensures.0 c.if-is-cheaper.true);
+          c.in-Some.at.place c.in-Some.at.slot names has c.index-places-at.result (stands_read c.args.places.now c.in-Some.at.place c.index-places-at.result within c.index-places-at.is) (c.is_cheaper.ensures.0 c.if-is_cheaper.true);
       less = met_less (g.M.Map.site c.args.task.now.map.now) (g.met.M.Map.lanes c.args.task.now.map.now) (g.met.M.Map.estimates c.args.task.now.map.now) g.C.Class g.K.Cost c.args.task.now.asked
           c.args.places.now c.args.queue.now c.args.slots.now c.requires.0 c.requires.1 c.args.found c.args.pair c.requires.2
-          c.in-Some.at.place c.in-Some.at.slot names has c.index-places-at.result (stands_read c.args.places.now c.in-Some.at.place c.index-places-at.result within c.index-places-at.is) (c.is-cheaper.ensures.0 c.if-is-cheaper.true) c.bound-at-bound.result c.bound-at-bound.ensures;
+          c.in-Some.at.place c.in-Some.at.slot names has c.index-places-at.result (stands_read c.args.places.now c.in-Some.at.place c.index-places-at.result within c.index-places-at.is) (c.is_cheaper.ensures.0 c.if-is_cheaper.true) c.bound_at-bound.result c.bound_at-bound.ensures;
     }
 
-pub returns-then-is-cheaper : goal.returns-then-is-cheaper
-returns-then-is-cheaper g c s i f =
+pub returns-then-is_cheaper : goal.returns-then-is_cheaper
+returns-then-is_cheaper g c s i f =
     let (names, has) = c.in-Some.ensures f.searching.indexed in
     let within = (met_found (g.M.Map.site c.args.task.now.map.now) (g.met.M.Map.lanes c.args.task.now.map.now) (g.met.M.Map.estimates c.args.task.now.map.now) g.C.Class g.K.Cost c.args.task.now.asked
     c.args.places.now c.args.queue.now c.args.slots.now s i c.args.found c.args.pair f c.in-Some.at.place c.in-Some.at.slot names has).0 in
     subst (λ (ys : List (Pair g.row.C.Denot g.row.K.Denot)). Searching (g.M.Map.site c.args.task.now.map.now) g.C.Class g.K.Cost c.args.task.now.asked ys c.lower.new.queue c.args.slots.now s (s + 1) (i + 1) c.args.found) (sym c.lower.ensures.places)
     (met_lowered (g.M.Map.site c.args.task.now.map.now) (g.met.M.Map.lanes c.args.task.now.map.now) (g.met.M.Map.estimates c.args.task.now.map.now) g.C.Class g.K.Cost c.args.task.now.asked
     c.args.places.now c.args.queue.now c.args.slots.now s i c.args.found c.args.pair f
-    c.in-Some.at.place c.in-Some.at.slot names has c.index-places-at.result (stands_read c.args.places.now c.in-Some.at.place c.index-places-at.result within c.index-places-at.is) (c.if-is-cheaper.ensures.0 refl) c.bound-at-bound.result c.bound-at-bound.ensures c.lower.new.queue c.lower.ensures.capacity c.lower.ensures.lowers)
+    c.in-Some.at.place c.in-Some.at.slot names has c.index-places-at.result (stands_read c.args.places.now c.in-Some.at.place c.index-places-at.result within c.index-places-at.is) (c.if-is_cheaper.ensures.0 refl) c.bound_at-bound.result c.bound_at-bound.ensures c.lower.new.queue c.lower.ensures.capacity c.lower.ensures.lowers)
 
-pub returns-else-is-cheaper : goal.returns-else-is-cheaper
-returns-else-is-cheaper g c s i f =
+pub returns-else-is_cheaper : goal.returns-else-is_cheaper
+returns-else-is_cheaper g c s i f =
     let (names, has) = c.in-Some.ensures f.searching.indexed in
     let within = (met_found (g.M.Map.site c.args.task.now.map.now) (g.met.M.Map.lanes c.args.task.now.map.now) (g.met.M.Map.estimates c.args.task.now.map.now) g.C.Class g.K.Cost c.args.task.now.asked
     c.args.places.now c.args.queue.now c.args.slots.now s i c.args.found c.args.pair f c.in-Some.at.place c.in-Some.at.slot names has).0 in
     met_no_cheaper (g.M.Map.site c.args.task.now.map.now) (g.met.M.Map.lanes c.args.task.now.map.now) (g.met.M.Map.estimates c.args.task.now.map.now) g.C.Class g.K.Cost c.args.task.now.asked
     c.args.places.now c.args.queue.now c.args.slots.now s i c.args.found c.args.pair f
-    c.in-Some.at.place c.in-Some.at.slot names has c.index-places-at.result (stands_read c.args.places.now c.in-Some.at.place c.index-places-at.result within c.index-places-at.is) (λ e. true≢false (sym (c.if-is-cheaper.ensures.1 e)))
+    c.in-Some.at.place c.in-Some.at.slot names has c.index-places-at.result (stands_read c.args.places.now c.in-Some.at.place c.index-places-at.result within c.index-places-at.is) (λ e. true≢false (sym (c.if-is_cheaper.ensures.1 e)))
 
 pub returns-in-None : goal.returns-in-None
 returns-in-None g c s i f =
     met_new (g.M.Map.site c.args.task.now.map.now) (g.met.M.Map.lanes c.args.task.now.map.now) (g.met.M.Map.estimates c.args.task.now.map.now) g.C.Class g.K.Cost c.args.task.now.asked
     c.args.places.now c.args.queue.now c.args.slots.now s i c.args.found c.args.pair f
-    (c.in-None.ensures f.searching.indexed) (c.has-room.ensures.0 c.if-has-room.true) c.add.new.places c.add.new.queue c.add.new.slots c.add.ensures.capacity c.bound-at-bound.result c.bound-at-bound.ensures c.add.ensures.added
+    (c.in-None.ensures f.searching.indexed) (c.has_room.ensures.0 c.if-has_room.true) c.add.new.places c.add.new.queue c.add.new.slots c.add.ensures.capacity c.bound_at-bound.result c.bound_at-bound.ensures c.add.ensures.added
 
 pub returns-in-None-2 : goal.returns-in-None-2
 returns-in-None-2 g c =
     met_crowded (g.M.Map.site c.args.task.now.map.now) (g.met.M.Map.lanes c.args.task.now.map.now) (g.met.M.Map.estimates c.args.task.now.map.now) g.C.Class g.K.Cost c.args.task.now.asked
     c.args.places.now c.args.queue.now c.args.slots.now c.requires.0 c.requires.1 c.args.found c.args.pair c.requires.2
-    (c.in-None-2.ensures c.requires.2.searching.indexed) (room_from_test c.has-room.result c.args.found (length c.args.places.now) c.has-room.ensures c.if-has-room.false)
+    (c.in-None-2.ensures c.requires.2.searching.indexed) (room_from_test c.has_room.result c.args.found (length c.args.places.now) c.has_room.ensures c.if-has_room.false)

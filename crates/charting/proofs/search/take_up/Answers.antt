@@ -9,8 +9,8 @@ bounds-slots-slot g c =
     (taken_reads (g.M.Map.site c.args.task.now.map.now) (g.met.M.Map.lanes c.args.task.now.map.now) (g.met.M.Map.estimates c.args.task.now.map.now) g.C.Class g.K.Cost c.args.task.now.asked
     c.args.places.now c.args.queue.now c.args.slots.now c.args.settled c.args.found c.requires c.in-Some.open (waiting c.pop.new.self) c.in-Some.ensures.popped.0).0
 
-pub overflow-sub-place : goal.overflow-sub-place
-overflow-sub-place g c =
+pub overflow_sub-place : goal.overflow_sub-place
+overflow_sub-place g c =
     (taken_reads (g.M.Map.site c.args.task.now.map.now) (g.met.M.Map.lanes c.args.task.now.map.now) (g.met.M.Map.estimates c.args.task.now.map.now) g.C.Class g.K.Cost c.args.task.now.asked
     c.args.places.now c.args.queue.now c.args.slots.now c.args.settled c.args.found c.requires c.in-Some.open (waiting c.pop.new.self) c.in-Some.ensures.popped.0).1
 

@@ -4,5 +4,5 @@ use Rattle.charts.proofs.listing.list_in.Goals as goal
 
 pub returns : goal.returns
 returns g c =
-    filled_up g.C.Class g.K.Cost c.args.pairs.now c.args.point c.args.list.now c.write-at.new.list c.put-in-order.new.items c.count-at-count.result (c.count-at-count.result - 0)
-    c.count-at-count.ensures (omega arith) c.write-at.ensures c.put-in-order.ensures.items c.put-in-order.ensures.ascends
+    filled_up g.C.Class g.K.Cost c.args.pairs.now c.args.point c.args.list.now c.write_at.new.list c.put_in_order.new.items c.count_at-count.result (c.count_at-count.result - 0)
+    c.count_at-count.ensures (omega arith) c.write_at.ensures c.put_in_order.ensures.items c.put_in_order.ensures.ascends

@@ -15,10 +15,10 @@ loop-count-preserved g c =
     let l : c.loop-count.count < length c.loop-count.buffer = omega arith in
     let here : c.loop-count.place < length c.args.pairs.now = c.loop-count.invariant.0 l in
     let it = written_more g.C.Class c.args.reel c.args.pairs.now c.args.first c.loop-count.count c.loop-count.place c.loop-count.buffer c.loop-count.invariant.1 l
-    c.from-last.result c.index-pairs-place.result (omega arith)
+    c.from_last.result c.index-pairs-place.result (omega arith)
     (stands_read c.args.pairs.now c.loop-count.place c.index-pairs-place.result here c.index-pairs-place.is) in
-    let there : c.place-after-place.result ≡ place_after (next_of g.C.Class c.args.reel (length c.args.pairs.now) c.index-pairs-place.result) c.loop-count.place = cc in
-    let buffer : List ℕ = set c.loop-count.buffer c.from-last.result c.index-pairs-place.result.point in
+    let there : c.place_after-place.result ≡ place_after (next_of g.C.Class c.args.reel (length c.args.pairs.now) c.index-pairs-place.result) c.loop-count.place = cc in
+    let buffer : List ℕ = set c.loop-count.buffer c.from_last.result c.index-pairs-place.result.point in
     subst (λ (k : ℕ). (c.loop-count.count + 1 < length buffer → k < length c.args.pairs.now) × Written g.C.Class c.args.reel c.args.pairs.now c.args.first (c.loop-count.count + 1) k buffer)
     (sym there)
     (λ m. written_here g.C.Class c.args.reel c.args.pairs.now c.args.first (c.loop-count.count + 1) _ buffer it m, it)

@@ -6,9 +6,9 @@ use Rattle.charts.proofs.runs.write_run.Goals as goal
 pub returns : goal.returns
 returns g c =
     let answer =
-    asked_runs g.C.Class c.in-ok-head.head.reel c.args.places.now c.args.point c.args.class.now c.args.chart.now c.in-ok-head.head (c.from.result - 0)
-    c.args.buffer.now c.write-in.new.buffer c.write-in.result (sym c.asked-at.ensures ∙ c.in-ok-head.was) (omega arith) c.write-in.ensures in
+    asked_runs g.C.Class c.in_ok-head.head.reel c.args.places.now c.args.point c.args.class.now c.args.chart.now c.in_ok-head.head (c.from.result - 0)
+    c.args.buffer.now c.write_in.new.buffer c.write_in.result (sym c.asked_at.ensures ∙ c.in_ok-head.was) (omega arith) c.write_in.ensures in
     record {
       answer = answer;
-      exact = lays_truly g.C.Class g.K.Cost c.args.chart.now c.args.places.now c.args.point c.args.class.now c.args.buffer.now c.write-in.new.buffer c.write-in.result answer;
+      exact = lays_truly g.C.Class g.K.Cost c.args.chart.now c.args.places.now c.args.point c.args.class.now c.args.buffer.now c.write_in.new.buffer c.write_in.result answer;
     }

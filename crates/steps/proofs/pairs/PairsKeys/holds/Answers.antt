@@ -6,7 +6,7 @@ use Rattle.steps.proofs.pairs.PairsKeys.holds.Goals as goal
 pub returns-then-at-self : goal.returns-then-at-self
 returns-then-at-self g c =
     pair_decides g.C.Class c.args.self.now.found.now c.args.place c.args.key.now.point (g.C.Class.element c.args.key.now.class)
-    c.index-self-at.result c.is-pair.result c.if-at-self.true c.index-self-at.is c.is-pair.ensures
+    c.index-self-at.result c.is_pair.result c.if-at-self.true c.index-self-at.is c.is_pair.ensures
 
 pub returns-else-at-self : goal.returns-else-at-self
 returns-else-at-self g c = (
