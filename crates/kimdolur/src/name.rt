@@ -1,4 +1,5 @@
 // `kimdolur name`: the class that a list of crossings names.
+use anyhow::anyhow;
 use classes::letters::Letter;
 use classes::sides::Sides;
 use classes::symbols::{Spelled, Unread};
@@ -16,10 +17,7 @@ fn read(heap: Global, text: &str) -> anyhow::Result<Vec<Crossing>> {
         Err(Unread::Memory) => Err(AllocError.into()),
         Err(Unread::Symbol { place, symbol }) => {
             let number = place.saturating_add(1);
-            let message = format!(in heap;
-                "'{symbol}' at place {number} is no crossing: use a to g, A to G or -"
-            )?;
-            Err(message.into())
+            Err(anyhow!("'{symbol}' at place {number} is no crossing: use a to g, A to G or -"))
         }
     }
 }

@@ -16,10 +16,7 @@ pub(crate) struct Held {
 fn bytes_of(rt: &HostRuntime, path: &str) -> anyhow::Result<Vec<u8>> {
     match fs::read(rt, path) {
         Ok(bytes) => Ok(bytes),
-        Err(error) => {
-            let message = format!(in rt.alloc(); "the plan cannot be read: {error}: {path}")?;
-            Err(message.into())
-        }
+        Err(error) => Err(anyhow!("the plan cannot be read: {error}: {path}")),
     }
 }
 
@@ -31,6 +28,6 @@ pub(crate) fn read(rt: &HostRuntime, path: &str) -> anyhow::Result<Held> {
     let mut slots = vec![in heap; 0u16; PLAN_SLOTS]?;
     match reading::read(&bytes, &mut memory, &mut slots) {
         Ok(plan) => Ok(Held { plan, memory }),
-        Err(refusal) => Err(anyhow!(format!(in heap; "{refusal}")?)),
+        Err(refusal) => Err(anyhow!("{refusal}")),
     }
 }

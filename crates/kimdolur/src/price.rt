@@ -51,51 +51,41 @@ enum Expected {
 }
 
 // The number that a word spells.
-fn number(heap: Global, word: &str) -> anyhow::Result<u16> {
+fn number(word: &str) -> anyhow::Result<u16> {
     match word.parse::<u16>() {
         Ok(number) => Ok(number),
-        Err(_) => {
-            let message = format!(in heap; "'{word}' is no number from 0 to 65535")?;
-            Err(message.into())
-        }
+        Err(_) => { Err(anyhow!("'{word}' is no number from 0 to 65535")) }
     }
 }
 
 // The kind of classes with this name.
-fn classes_of(heap: Global, word: &str) -> anyhow::Result<Classes> {
+fn classes_of(word: &str) -> anyhow::Result<Classes> {
     match word {
         "words" => Ok(Classes::Words),
         "sides" => Ok(Classes::Sides),
-        _ => {
-            let message = format!(in heap; "'{word}' is no kind of classes: use words or sides")?;
-            Err(message.into())
-        }
+        _ => { Err(anyhow!("'{word}' is no kind of classes: use words or sides")) }
     }
 }
 
 // The kind of costs with this name.
-fn costs_of(heap: Global, word: &str) -> anyhow::Result<Costs> {
+fn costs_of(word: &str) -> anyhow::Result<Costs> {
     match word {
         "length" => Ok(Costs::Length),
         "slope" => Ok(Costs::Slope),
-        _ => {
-            let message = format!(in heap; "'{word}' is no kind of costs: use length or slope")?;
-            Err(message.into())
-        }
+        _ => { Err(anyhow!("'{word}' is no kind of costs: use length or slope")) }
     }
 }
 
 // Takes up a lane number, or begins an option: what the word after it says.
-fn lane_or_option(heap: Global, word: &str, request: &mut Request) -> anyhow::Result<Expected> {
+fn lane_or_option(word: &str, request: &mut Request) -> anyhow::Result<Expected> {
     match word {
         "--class" => Ok(Expected::Classes),
         "--cost" => Ok(Expected::Costs),
         _ if word.starts_with("-") => {
-            let message = format!(in heap; "no option '{word}'; kimdolur --help lists them")?;
-            Err(message.into())
+            Err(anyhow!("no option '{word}'; kimdolur --help lists them"))
         }
         _ => {
-            request.lanes.push(number(heap, word)?)?;
+            request.lanes.push(number(word)?)?;
             Ok(Expected::LaneOrOption)
         }
     }
@@ -104,7 +94,7 @@ fn lane_or_option(heap: Global, word: &str, request: &mut Request) -> anyhow::Re
 // The request that the words after the plan's name make.
 fn read_request(heap: Global, from: &str, words: &[String]) -> anyhow::Result<Request> {
     let mut request = Request {
-        from: number(heap, from)?,
+        from: number(from)?,
         lanes: Vec::new(heap),
         classes: Classes::Words,
         costs: Costs::Length,
@@ -113,13 +103,13 @@ fn read_request(heap: Global, from: &str, words: &[String]) -> anyhow::Result<Re
     for word in words {
         let word = word.as_str();
         match expected {
-            Expected::LaneOrOption => expected = lane_or_option(heap, word, &mut request)?,
+            Expected::LaneOrOption => expected = lane_or_option(word, &mut request)?,
             Expected::Classes => {
-                request.classes = classes_of(heap, word)?;
+                request.classes = classes_of(word)?;
                 expected = Expected::LaneOrOption;
             }
             Expected::Costs => {
-                request.costs = costs_of(heap, word)?;
+                request.costs = costs_of(word)?;
                 expected = Expected::LaneOrOption;
             }
         }
