@@ -1,11 +1,11 @@
 -- The fourteen letters. Assumes nothing.
 --     rank_of a         its place in the order a, A, b, B, up to G, from 0
---     turned a         the same ray the other way
+--     turned a          the same ray the other way
 --     forwards_of r     the letter of the ray r forwards
 --     letter_of x       the letter of the crossing x, or none if it crosses no ray
 --     crossing_of a     the crossing that the letter a stands for
---     letters          the order of letters
---     alike a b        whether a and b are one letter
+--     letters           the order of letters
+--     alike a b         whether a and b are one letter
 use Rattle.std.specs.Prelude.{◌≡◌, ℕ, Bool, true, false, List, [], ◌∷◌, get_or, Some, None, Option, ◌==◌, ◌≢◌, slice_index_or, refl}
 use Rattle.std.proofs.Common.{sym, ap, ◌∙◌, eqb-true, eq-eqb, ne_eqb}
 use Rattle.std.proofs.lemmas.Bool.{eqb-false}

@@ -5,8 +5,8 @@
 --     odd n            whether n is odd
 --     stored xs        the parities that a list of seven bits means
 --     Tells xs f       f has for each ray whether xs crosses it an odd number of times
---     bit_of b          1 for true, 0 for false
---     digest_of f       the hash of parities: their bits as a number, ray 1 the lowest
+--     bit_of b         1 for true, 0 for false
+--     digest_of f      the hash of parities: their bits as a number, ray 1 the lowest
 use Rattle.std.specs.Prelude.{◌≡◌, ℕ, ◌+◌, ◌-◌, ◌*◌, ◌%◌, Bool, true, false, cond, not, List, [], ◌∷◌, map, get_or, ◌==◌, slice_index_or, refl}
 use Rattle.std.proofs.Common.{ap}
 use Rattle.kinds.specs.declared.crossing.Ray.{Ray}

@@ -1,6 +1,6 @@
 -- How crossings are written: a to g for the rays forwards, A to G backwards, - for none. Assumes nothing.
 --     symbol_of x           the character of the crossing x
---     Reads c o            o is the crossing whose character is c, or none if c is no crossing's
+--     Reads c o             o is the crossing whose character is c, or none if c is no crossing's
 use Rattle.std.specs.Prelude.{◌≡◌, ℕ, ◌+◌, Option, MatchOption, ◌≢◌}
 use Rattle.kinds.specs.declared.crossing.Crossing.{Crossing}
 use Rattle.kinds.specs.declared.crossing.Crossing.TheVariants as cross

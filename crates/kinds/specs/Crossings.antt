@@ -1,7 +1,7 @@
 -- Rays and crossings. Assumes nothing.
 --     numbered r       the number of the ray r, 1 to 7
 --     Numbers n o      o is the ray with the number n, or none if there is no such ray
---     other_way x       the crossing x the other way
+--     other_way x      the crossing x the other way
 use Rattle.std.specs.Prelude.{◌≡◌, ℕ, ◌<◌, ◌⊎◌, Option, MatchOption}
 use Rattle.kinds.specs.declared.crossing.Ray.{Ray}
 use Rattle.kinds.specs.declared.crossing.Ray.TheVariants.{One, Two, Three, Four, Five, Six, Seven}

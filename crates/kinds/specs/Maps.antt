@@ -2,7 +2,7 @@
 --     Site             the points of a map, its limit on lane numbers, the lane that a number names at a point, and the estimate for a point and an aim
 --     back n           the number of the lane back: n with its lowest bit flipped
 --     LawfulLanes m    the laws of points and lanes
---     LawfulEstimates m    the laws of estimates
+--     LawfulEstimates m  the laws of estimates
 --     Lawful m         both
 --     Next m p n o     o is the first lane number from n on that names a lane at p, or none if no such number does
 use Rattle.std.specs.Prelude.{◌≡◌, ℕ, ◌+◌, ◌-◌, ◌*◌, ◌%◌, ◌<◌, ◌≤◌, ◌⊎◌, Some, None, Option}

@@ -1,5 +1,5 @@
 -- Runs, their class and their cost. Assumes nothing.
---     Run m p ns ls q      from the point p the lane numbers ns name the lanes ls, each starting where the one before ended, and the last ends at q
+--     Run m p ns ls q       from the point p the lane numbers ns name the lanes ls, each starting where the one before ended, and the last ends at q
 --     class_of G ls         the class of the lanes: the product of their crossings from first to last
 --     cost_of k ls          the cost of the lanes: the sum of their costs from first to last
 use Rattle.std.specs.Prelude.{◌≡◌, ℕ, ◌<◌, List, [], ◌∷◌, map, Some}

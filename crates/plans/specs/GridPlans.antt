@@ -1,6 +1,6 @@
 -- What the record and the memory of a grid plan hold. Assumes nothing.
---     head_of g            the opening command that the record is of
---     posts_of cs          the posts of the commands, in order
+--     head_of g           the opening command that the record is of
+--     posts_of cs         the posts of the commands, in order
 --     Placed cs g         the record's posts are those of the commands
 --     place w c r         the number of a point
 --     Inside g c r        the point lies in the grid

@@ -1,18 +1,18 @@
 -- What a grid is, and the map that it means. Assumes nothing.
 --     Terrain          columns, rows, spacing, posts in order, and what is blocked and the risk at a column and a row
 --     sized w h s      these columns, rows and spacing are in range
---     points_of w h s   how many points there are: none if a size is out of range
+--     points_of w h s  how many points there are: none if a size is out of range
 --     Inside w h c r   the column c and the row r are on a grid with w columns and h rows, each at most 64
 --     place w c r      the number of the point at the column c and the row r, where a row has w points
 --     over p c y       the lane between the columns c and c + 1 on the row y crosses the ray of the post p
---     eastward k ps c y    what that lane crosses going east, where the rays of the posts ps are numbered from k on
+--     eastward k ps c y  what that lane crosses going east, where the rays of the posts ps are numbered from k on
 --     lane_to t c r d q x   the lane from (c, r) to (d, q) that crosses x: as long as the spacing, with the larger risk of its ends
---     way t e c r d q x    that lane, if it stays on the grid, as e says, and neither end is blocked
---     lane_at t c r n   the lane with the number n at (c, r)
+--     way t e c r d q x  that lane, if it stays on the grid, as e says, and neither end is blocked
+--     lane_at t c r n  the lane with the number n at (c, r)
 --     apart a b        the difference of two numbers
---     grid_site t       the map of the grid t
+--     grid_site t      the map of the grid t
 --     viewed g m       the grid that the record g and the memory m hold: byte p is the risk of the point p, byte 4096 + p not 0 if it is blocked
---     terrain_of f v    the grid that the view v holds, where f says which bytes its memory holds
+--     terrain_of f v   the grid that the view v holds, where f says which bytes its memory holds
 use Rattle.std.specs.Prelude.{ℕ, ◌+◌, ◌-◌, ◌*◌, ◌/◌, ◌%◌, ◌<◌, ◌≤◌, min, max, Bool, cond, not, ◌&&◌, ◌||◌, List, [], ◌∷◌, length, take, Some, None, Option, ◌==◌, nat_le, nat_lt, slice_index}
 use Rattle.kinds.specs.declared.lane.Lane.{Lane}
 use Rattle.kinds.specs.declared.crossing.Crossing.{Crossing}

@@ -1,12 +1,12 @@
 -- How a plan lies in its record and its memory of 10,240 bytes, every byte of it. Assumes nothing.
---     head_of p           the opening command that the record p is of
+--     head_of p          the opening command that the record p is of
 --     nowhere            the post in the places of the record that no post has
 --     Placed cs g        the record's posts are those of the commands
 --     GridTells cs g m   the record g and the memory m hold what the commands of a grid say
 --     laid k             the eight bytes of a lane command
 --     RoadTells cs r m   the record r and the memory m hold what the commands of a roadmap say
 --     Tells cs p m       the record p of either kind and the memory m hold what the commands say
---     plan_site p m       the map that the record p and the memory m make
+--     plan_site p m      the map that the record p and the memory m make
 --     blank              the memory before reading: every byte 0
 use Rattle.std.specs.Prelude.{◌≡◌, ℕ, ◌+◌, ◌-◌, ◌*◌, ◌<◌, ◌≤◌, List, [], ◌∷◌, ◌++◌, length, replicate, slice_index, slice_index_or}
 use Rattle.kinds.specs.Maps.{Site}

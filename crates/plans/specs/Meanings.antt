@@ -1,6 +1,6 @@
 -- The map that a list of commands means. Assumes nothing.
 --     posts_of cs         the posts of the commands, in order: the k-th casts ray k
---     Blocked cs c r     some block command names the point at the column c and the row r; is_blocked tests it
+--     Blocked cs c r      some block command names the point at the column c and the row r; is_blocked tests it
 --     risk_after k cs c r the risk of that point: that of the last weigh command for it, or else k
 --     told_grid w h s cs  the grid of the commands
 --     surveys_of cs       the survey numbers of the points, in order: the i-th is that of point i

@@ -1,6 +1,6 @@
 -- Rays and crossings by their numbers. Assumes nothing.
---     crossings        nothing, and then the seven rays forwards
---     ahead n          the ray with the number n, 1 to 7, crossed forwards, and nothing at any other number
+--     crossings         nothing, and then the seven rays forwards
+--     ahead n           the ray with the number n, 1 to 7, crossed forwards, and nothing at any other number
 --     is_crossing b     the byte b stands for a crossing
 --     crossing_of b     the crossing that it stands for: 0 none, 1 to 7 forwards, 129 to 135 backwards
 use Rattle.std.specs.Prelude.{ℕ, ◌-◌, Bool, cond, ◌&&◌, ◌||◌, List, [], ◌∷◌, nat_le, nat_lt, slice_index_or}

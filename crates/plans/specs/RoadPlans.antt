@@ -1,7 +1,7 @@
 -- How a roadmap lies in plan memory, by its commands. Assumes nothing.
---     lane_bytes i j l k x    the record of a lane between the points i and j: both, the length, the risk, the crossing byte
---     lane_of ns c            the record of a lane command, its ends by the places of their numbers among ns; nothing for another command
---     lanes_in ns cs          the records of the lanes, in their order
+--     lane_bytes i j l k x   the record of a lane between the points i and j: both, the length, the risk, the crossing byte
+--     lane_of ns c           the record of a lane command, its ends by the places of their numbers among ns; nothing for another command
+--     lanes_in ns cs         the records of the lanes, in their order
 --     fours ns               the numbers, each as four bytes
 --     padded n xs            xs, and zeros up to the length n
 --     image cs               the memory: the lanes, zeros up to 8192, the survey numbers, zeros up to 10240

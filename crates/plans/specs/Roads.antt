@@ -6,11 +6,11 @@
 --     backward k       the lane from its second end back to its first
 --     leg k p s        the lane along the link k that starts at p: onward if s is 0, else backward
 --     stands t n       the number n names a lane of the net t: link n / 2
---     road_site t       the map of the net t
---     two_at m i        the number in the two bytes from i on, high byte first
---     link_at m a       the link in the eight bytes from 8 a on: first end, second end, length, risk, crossing byte
---     net_in r m        the net that the record r and the memory m hold
---     net_of f v        the net that the view v holds, where f says which bytes its memory holds
+--     road_site t      the map of the net t
+--     two_at m i       the number in the two bytes from i on, high byte first
+--     link_at m a      the link in the eight bytes from 8 a on: first end, second end, length, risk, crossing byte
+--     net_in r m       the net that the record r and the memory m hold
+--     net_of f v       the net that the view v holds, where f says which bytes its memory holds
 use Rattle.std.specs.Prelude.{ℕ, ◌+◌, ◌*◌, ◌/◌, ◌%◌, min, Bool, cond, not, ◌&&◌, List, Some, None, Option, ◌==◌, nat_le, nat_lt, slice_index}
 use Rattle.kinds.specs.declared.lane.Lane.{Lane}
 use Rattle.kinds.specs.Crossings.{other_way}

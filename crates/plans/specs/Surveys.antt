@@ -2,7 +2,7 @@
 --     number_at m i       the number that the four bytes from the place i on spell, high byte first
 --     survey_place k      the place of the k-th point's survey number
 --     survey_at m n k     the survey number of the k-th of n points; none if k is no such point, or if it lies past the memory
---     numbers            survey numbers as keys: each means itself, and is its own hash
+--     numbers             survey numbers as keys: each means itself, and is its own hash
 use Rattle.std.specs.Prelude.{ℕ, ◌+◌, ◌*◌, cond, List, length, Some, None, Option, nat_le, nat_lt, slice_index}
 use Rattle.tables.specs.Probes.{KeyKind}
 

@@ -1,8 +1,8 @@
 -- Linear probing over slots, where 0 is vacant and k + 1 names the place k. Assumes nothing.
---     KeyKind            what keys mean, and the hash of each meaning
+--     KeyKind             what keys mean, and the hash of each meaning
 --     way_at n h j        the slot at step j of the way of the hash h, over n slots
 --     on_way slots h j    the entry of that slot
---     Met slots h i j    the slot i is at step j of the way of the hash h, and no slot before it is vacant
+--     Met slots h i j     the slot i is at step j of the way of the hash h, and no slot before it is vacant
 use Rattle.std.specs.Prelude.{◌≡◌, ℕ, ◌+◌, ◌%◌, ◌<◌, List, length, ◌≢◌, slice_index}
 
 pub record KeyKind : Type 1 where

@@ -1,7 +1,7 @@
 -- Worked examples of the definitions that the contracts use. Assumes nothing.
 --     a, b, c, A, B        crossings: rays 1 to 3 forwards, rays 1 and 2 backwards
---     east_plot             the bytes of a plan: a grid of three by three points, a metre apart, with a post and a blocked point in its middle
---     east_site             the map of that plan
+--     east_plot            the bytes of a plan: a grid of three by three points, a metre apart, with a post and a blocked point in its middle
+--     east_site            the map of that plan
 --     Prices ns q w        on that map the lane numbers ns name a run from point 0 to q, with the word w, that is 400 cm long
 --     Examples             what some lists of crossings name, what some costs sum to, and what two runs on a plan have
 use Rattle.std.specs.Prelude.{◌≡◌, ℕ, true, false, List, [], ◌∷◌, ◌++◌, map, replicate}
