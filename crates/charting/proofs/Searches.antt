@@ -1,6 +1,6 @@
 -- Each step of a search keeps what holds in all of its memory.
 use Rattle.std.proofs.Common.{◌≡◌, ℕ, zero, suc, ◌+◌, ◌-◌, ◌*◌, ◌<◌, ◌≤◌, List, ◌∷◌, length, get_or, take, set, replicate, Some, None, Option, Less, sym, refl, ap, ◌∙◌, subst, inl, inr, add-zero, arith, length-set, MatchOption}
-use Rattle.std.specs.List.{ContainsAt as Has, AllByRecursion as All}
+use Rattle.std.specs.List.{ContainsAt as Has, AllByRecursion}
 use Rattle.std.proofs.lemmas.List.Sorted.{IsPermutation-sym, IsPermutation-trans}
 use Rattle.std.proofs.ByRecursion.{all-has}
 use Rattle.kinds.specs.declared.lane.Lane.{Lane}
@@ -205,7 +205,7 @@ module _ {C K : Type 0} (m : Site) (lanes : LawfulLanes m) (estimates : LawfulEs
             (met_place.1 ∙ f.comes.point) (met_place.2 ∙ f.comes.class) less'
 
         -- so it waits
-        pub met_waits : All (λ w. w.slot ≡ u → ⊥) (waiting queue) → ⊥
+        pub met_waits : AllByRecursion (λ w. w.slot ≡ u → ⊥) (waiting queue) → ⊥
         met_waits none =
             let (w, is, nm) = f.searching.waits.all j met_open met_place.0 in
             all-has (λ w. w.slot ≡ u → ⊥) (waiting queue) w none is (one_name b xs slots n f.searching.progress.room f.searching.indexed w.slot u j nm names)

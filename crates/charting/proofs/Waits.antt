@@ -1,7 +1,7 @@
 -- The open pairs go on waiting: one is taken up, one is added, one is lowered.
 use Rattle.std.proofs.Common.{◌≡◌, ℕ, ◌+◌, ◌<◌, ◌≤◌, cond, eqb, List, [], ◌∷◌, length, get_or, set, Option, sym, refl, ap, ◌∙◌, subst, inl, inr, arith}
 use Rattle.std.specs.List.Sorted.{IsPermutation}
-use Rattle.std.specs.List.{ContainsAt as Has, AllByRecursion as All}
+use Rattle.std.specs.List.{ContainsAt as Has, AllByRecursion}
 use Rattle.std.proofs.ByRecursion.{All-weaker, all_shuffled, has_shuffled}
 use Rattle.std.proofs.lemmas.List.Sorted.{sum_by-IsPermutation, length_permutation}
 use Rattle.std.proofs.lemmas.List.Sums.{sum_by-cons}
@@ -23,11 +23,11 @@ module _ {K : Type 0} (s : ℕ) where
   one_more x ws = sum_by-cons (λ w. cond (eqb w.slot s) 1 0) x ws
 
   -- of records with other slots none has this one
-  pub none_waiting : (ws : List (Open K)) → All (λ w. w.slot ≡ s → ⊥) ws → waiting_at s ws ≡ 0
+  pub none_waiting : (ws : List (Open K)) → AllByRecursion (λ w. w.slot ≡ s → ⊥) ws → waiting_at s ws ≡ 0
   none_waiting [] a = refl
   none_waiting (x ∷ ws) (ne, a) = one_more x ws ∙ ap (λ b. cond b 1 0 + waiting_at s ws) (ne_eqb x.slot s ne) ∙ let z = none_waiting ws a in omega arith
 
-  pub others_wait : (ws : List (Open K)) → waiting_at s ws ≡ 0 → All (λ w. w.slot ≡ s → ⊥) ws
+  pub others_wait : (ws : List (Open K)) → waiting_at s ws ≡ 0 → AllByRecursion (λ w. w.slot ≡ s → ⊥) ws
   others_wait [] e = tt
   others_wait (x ∷ ws) e = (not, others_wait ws (omega (arith, one_more x ws)))
     where
@@ -35,7 +35,7 @@ module _ {K : Type 0} (s : ℕ) where
       not h = let f : ◌≡◌ {A = ℕ} (cond (eqb x.slot s) 1 0) 1 = ap (λ b. cond b 1 0) (eq-eqb x.slot s h) in omega (arith, one_more x ws)
 
   -- beside a record with this slot no other has it
-  pub others_apart : (x : Open K) (ws : List (Open K)) → x.slot ≡ s → waiting_at s (x ∷ ws) ≤ 1 → All (λ w. w.slot ≡ s → ⊥) ws
+  pub others_apart : (x : Open K) (ws : List (Open K)) → x.slot ≡ s → waiting_at s (x ∷ ws) ≤ 1 → AllByRecursion (λ w. w.slot ≡ s → ⊥) ws
   others_apart x ws h le =
       let f : ◌≡◌ {A = ℕ} (cond (eqb x.slot s) 1 0) 1 = ap (λ b. cond b 1 0) (eq-eqb x.slot s h) in
       others_wait ws (omega (arith, one_more x ws))
@@ -44,7 +44,7 @@ module _ {K : Type 0} (s : ℕ) where
   waiting_shuffled ws vs sh = sum_by-IsPermutation (λ w. cond (eqb w.slot s) 1 0) ws vs sh
 
 -- both facts of each
-all_both : {X : Type 0} (P Q R : X → Type 0) → ((x : X) → P x → Q x → R x) → (xs : List X) → All P xs → All Q xs → All R xs
+all_both : {X : Type 0} (P Q R : X → Type 0) → ((x : X) → P x → Q x → R x) → (xs : List X) → AllByRecursion P xs → AllByRecursion Q xs → AllByRecursion R xs
 all_both P Q R f [] a b = tt
 all_both P Q R f (x ∷ xs) (p, a) (q, b) = (f x p q, all_both P Q R f xs a b)
 
@@ -58,10 +58,10 @@ module _ {C K : Type 0} (m : Site) (k : CostKind K) (aim : Option ℕ) (xs : Lis
     pub taken_serves : (e : ℕ) × (t ≤ e) × (e < n) × Serves m k aim xs slots x e
     taken_serves = (all_shuffled (λ w. (e : ℕ) × (t ≤ e) × (e < n) × Serves m k aim xs slots w e) ws (x ∷ rest) sh waits.each).0
 
-    left_each : All (λ w. (e : ℕ) × (t ≤ e) × (e < n) × Serves m k aim xs slots w e) rest
+    left_each : AllByRecursion (λ w. (e : ℕ) × (t ≤ e) × (e < n) × Serves m k aim xs slots w e) rest
     left_each = (all_shuffled (λ w. (e : ℕ) × (t ≤ e) × (e < n) × Serves m k aim xs slots w e) ws (x ∷ rest) sh waits.each).1
 
-    left_apart : All (λ w. w.slot ≡ x.slot → ⊥) rest
+    left_apart : AllByRecursion (λ w. w.slot ≡ x.slot → ⊥) rest
     left_apart = others_apart x.slot x rest refl (subst (λ a. a ≤ 1) (sym (waiting_shuffled x.slot ws (x ∷ rest) sh)) (waits.once x.slot))
 
     left_once : (s : ℕ) → waiting_at s rest ≤ 1

@@ -4,7 +4,7 @@
 --     Serves .. xs slots w e     the record w stands for the place e: its slot names e, and it has the present cost and bound of the pair there
 --     Waits .. xs slots ws t n   each open pair waits, in one record that serves it, and nothing else does
 use Rattle.std.specs.Prelude.{◌≡◌, ℕ, ◌+◌, ◌<◌, ◌≤◌, List, length, count_by, Option, nat_eq}
-use Rattle.std.specs.List.{ContainsAt as Has, AllByRecursion as All}
+use Rattle.std.specs.List.{ContainsAt as Has, AllByRecursion}
 use Rattle.kinds.specs.Maps.{Site}
 use Rattle.kinds.specs.Costs.{CostKind}
 use Rattle.kinds.specs.Reaches.{tail}
@@ -22,7 +22,7 @@ module _ {C K : Type 0} (m : Site) (k : CostKind K) (aim : Option ℕ) (xs : Lis
     pub priced : (x : Pair C K) → Stands xs e x → (w.cost ≡ x.cost) × (w.bound ≡ k.plus x.cost (tail m k aim x.point))
 
   pub record Waits (ws : List (Open K)) (t n : ℕ) : Type 0 where
-    pub each : All (λ w. (e : ℕ) × (t ≤ e) × (e < n) × Serves w e) ws
+    pub each : AllByRecursion (λ w. (e : ℕ) × (t ≤ e) × (e < n) × Serves w e) ws
     pub once : (s : ℕ) → waiting_at s ws ≤ 1
     pub all : (e : ℕ) → t ≤ e → e < n → (w : Open K) × Has ws w × Names slots w.slot e
     pub count : t + length ws ≡ n

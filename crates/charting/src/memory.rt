@@ -1,6 +1,6 @@
 // Steps on the memory of a search: its places, the queue of open pairs and the index slots.
 ghost use Rattle.std.specs.Prelude.{◌≡◌, ℕ, ◌+◌, ◌*◌, ◌<◌, ◌≤◌, length, take, MatchBool, MatchOption, ◌≢◌, slice_set};
-ghost use Rattle.std.specs.List.{ContainsAt as Has, AllByRecursion as All};
+ghost use Rattle.std.specs.List.{ContainsAt as Has, AllByRecursion};
 ghost use Rattle.tables.specs.Indexes.{Names, Indexed, Covers, Exact, Inserts, Keeps};
 ghost use Rattle.tables.specs.declared.index.Inserted.TheVariants.{At};
 ghost use Rattle.tables.specs.Orders.{AtMost};
@@ -77,7 +77,7 @@ fn has_slot<K: Cost>(queue: &Queue<Open<K>>, place: usize, slot: u16) -> bool
 
 // Where in the queue the record with this slot waits.
 fn waiting_at<K: Cost>(queue: &Queue<Open<K>>, slot: u16) -> Option<usize>
-    ensures { MatchOption result (All (λ w. w.slot ≢ slot) (waiting queue.now)) (λ p. (w : Open K) × (p < length (waiting queue.now)) × Stands (waiting queue.now) p w × (w.slot ≡ slot)) }
+    ensures { MatchOption result (AllByRecursion (λ w. w.slot ≢ slot) (waiting queue.now)) (λ p. (w : Open K) × (p < length (waiting queue.now)) × Stands (waiting queue.now) p w × (w.slot ≡ slot)) }
 {
     for place in 0..queue.len() {
         if has_slot(queue, place, slot) {
@@ -175,7 +175,7 @@ pub(crate) fn lower<C: Class, K: Cost>(
     bound: K,
 )
     requires room { place < length places.old }
-    requires waits { All (λ w. w.slot ≢ slot) (waiting queue.old) → ⊥ }
+    requires waits { AllByRecursion (λ w. w.slot ≢ slot) (waiting queue.old) → ⊥ }
     requires less { (w : Open K) → Has (waiting queue.old) w → w.slot ≡ slot → AtMost (by_bound K.Cost.costs) (record { bound = bound; cost = pair.cost; slot = slot }) w }
     ensures capacity { length (capacity queue.new) ≡ length (capacity queue.old) }
     ensures places { places.new ≡ slice_set places.old place pair }

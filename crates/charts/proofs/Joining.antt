@@ -2,7 +2,7 @@
 use Rattle.std.proofs.Common.{◌≡◌, ℕ, zero, suc, ◌<◌, Bool, true, false, cond, ltb, leb, ◌⊎◌, List, [], ◌∷◌, map, length, get_or, take, set, Some, None, Ok, Err, filter, Option, Result, sym, refl, ap, ◌∙◌, subst, inl, inr, arith, MatchResult}
 use Rattle.std.specs.Ordering.{is_gt}
 use Rattle.std.specs.List.Sorted.{IsPermutation}
-use Rattle.std.specs.List.{swap, ContainsAt as Has, AllByRecursion as All}
+use Rattle.std.specs.List.{swap, ContainsAt as Has, AllByRecursion}
 use Rattle.std.proofs.lemmas.List.{length-set, get_or_default, get_or-set_same, get_or-set_other}
 use Rattle.std.proofs.ByRecursion.{All-map, all_kept_by, all-has, all_has_itself, All-weaker, has_get_or, kept_by_passes, all_shuffled, has_shuffled}
 use Rattle.std.proofs.lemmas.List.Sorted.{IsPermutation-keeps}
@@ -117,10 +117,10 @@ module _ {C K : Type 0} (m : Site) (G : ClassKind) (el : C → G.Element) (k : C
     From xs z = (y : Pair C K) × Has xs y × (y.point ≡ p) × (priced y ≡ z)
 
     -- what is gathered comes from there
-    pub all_from : (xs : List (Pair C K)) → All (From xs) (priced_at p xs)
+    pub all_from : (xs : List (Pair C K)) → AllByRecursion (From xs) (priced_at p xs)
     all_from xs = All-map (From xs) priced (filter (is_at p) xs) (both (filter (is_at p) xs) (all_kept_by (is_at p) (Has xs) xs (all_has_itself xs)) (kept_by_passes (is_at p) xs))
       where
-        both : (ys : List (Pair C K)) → All (Has xs) ys → All (λ y. is_at p y ≡ true) ys → All (λ y. From xs (priced y)) ys
+        both : (ys : List (Pair C K)) → AllByRecursion (Has xs) ys → AllByRecursion (λ y. is_at p y ≡ true) ys → AllByRecursion (λ y. From xs (priced y)) ys
         both [] a b = tt
         both (y ∷ ys) a b = ((y, a.0, eqb-true y.point p b.0, refl), both ys a.1 b.1)
 
@@ -201,7 +201,7 @@ module _ {C K : Type 0} (m : Site) (law : LawfulEstimates m) (b : Classes C) (c 
       From' : List (Pair C K) → Priced C K → Type 0
       From' = From m b.kind b.element c.costs reel aim cable p
 
-      here : All (From' xs) zs
+      here : AllByRecursion (From' xs) zs
       here = all_shuffled (From' xs) (priced_at p xs) zs filled.items (all_from m b.kind b.element c.costs reel aim cable p xs)
 
       apart : Apart b.element zs

@@ -6,7 +6,7 @@
 --     ListsTruly b c o xs p to r   if the counted places of xs are a finished chart of any map, for its reel, its aim and any cable, then what was listed lists so
 use Rattle.std.specs.Prelude.{◌≡◌, ℕ, ◌<◌, ◌⊎◌, List, length, take, Some, Ok, Option, Result, slice_index_or}
 use Rattle.std.specs.declared.cmp.Ordering.TheVariants.{Less}
-use Rattle.std.specs.List.{ContainsAt as Has, AllByRecursion as All}
+use Rattle.std.specs.List.{ContainsAt as Has, AllByRecursion}
 use Rattle.kinds.specs.declared.refusal.Refusal.{Refusal}
 use Rattle.kinds.specs.declared.class.Class.{Ghosts as Classes}
 use Rattle.kinds.specs.declared.cost.Cost.{Ghosts as Costs}
@@ -30,7 +30,7 @@ module _ {C K : Type 0} (G : ClassKind) (el : C → G.Element) (k : CostKind K) 
     pub sound : (g : G.Element) → Names zs g → Lies m G k reel cable p g
     pub complete : (g : G.Element) → Lies m G k reel cable p g → Names zs g
     pub sorted : (i j : ℕ) (d : Priced C K) → i < j → j < length zs → Before (slice_index_or zs i d) (slice_index_or zs j d)
-    pub cheapest : All (λ x. Cheapest m G k reel p (el x.class) x.cost) zs
+    pub cheapest : AllByRecursion (λ x. Cheapest m G k reel p (el x.class) x.cost) zs
 
 abbrev pub ListsTruly : {C K : Type 0} → Classes C → Costs K → Option Chart → List (Pair C K) → ℕ → List (Priced C K) → Result ℕ Refusal → Type 0
 ListsTruly b c o xs p to r =

@@ -1,5 +1,5 @@
 use Rattle.std.proofs.Common.{◌≡◌, ◌<◌, length, sym, ap, ◌∙◌, subst, arith}
-use Rattle.std.specs.List.{AllByRecursion as All}
+use Rattle.std.specs.List.{AllByRecursion}
 use Rattle.std.proofs.ByRecursion.{All-more}
 use Rattle.std.proofs.lemmas.List.{take_all}
 use Rattle.tables.specs.Queues.{waiting}
@@ -16,4 +16,4 @@ loop-place-preserved g c =
 
 pub returns : goal.returns
 returns g c =
-    subst (All (λ w. w.slot ≡ c.args.slot → ⊥)) (take_all c.loop-place.place (waiting c.args.queue.now) (omega (arith, c.len-place-end.ensures.len, c.loop-place-test.false))) c.loop-place.invariant
+    subst (AllByRecursion (λ w. w.slot ≡ c.args.slot → ⊥)) (take_all c.loop-place.place (waiting c.args.queue.now) (omega (arith, c.len-place-end.ensures.len, c.loop-place-test.false))) c.loop-place.invariant
