@@ -1,6 +1,6 @@
 -- How the open pairs wait. Assumes nothing.
 -- Open are the pairs at the places from t to below n of xs; the slots name places; ws are the records that wait.
---     waiting_at s ws             how many of ws have the slot s
+--     waiting_at s ws            how many of ws have the slot s
 --     Serves .. xs slots w e     the record w stands for the place e: its slot names e, and it has the present cost and bound of the pair there
 --     Waits .. xs slots ws t n   each open pair waits, in one record that serves it, and nothing else does
 use Rattle.std.specs.Prelude.{◌≡◌, ℕ, ◌+◌, ◌<◌, ◌≤◌, List, length, count_by, Option, nat_eq}

@@ -1,6 +1,6 @@
 -- The refusals that come before a chart is read. Assumes nothing.
 -- Here o is the head of the chart or none, and n the number of places.
---     covering a p         the test whether a chart with the aim a covers the point p
+--     covering a p          the test whether a chart with the aim a covers the point p
 --     on_ok r f             what f answers to the value in r; a refusal stays
 --     standing_of o n       the head, unless no chart stands or it counts more than n pairs
 --     whole_of o n          the same, if the chart is not aimed

@@ -1,7 +1,7 @@
 -- Looking a pair up. Assumes nothing.
 -- Here b is what classes mean.
 --     IsPair b p g x       x is the pair of the point p with the class g
---     is_pair b p g x       the test whether it is
+--     is_pair b p g x      the test whether it is
 --     Matches b p c x      x is the pair of the point p with the class that c means
 --     matches b p c x      the test whether it is
 --     Nowhere b xs p c     no place of xs has that pair

@@ -1,10 +1,10 @@
 -- Runs along the links of a chart. Assumes nothing.
 -- Here b is what classes mean, xs are the counted places and reel is where the runs begin.
 --     Home b reel x            the pair x is the reel with the unit
---     is_home b reel x          the test whether it is
---     on_link n o               where the link o leads among n places: to one of them, or nowhere
---     next_of b reel n x        where the pair x leads among n places: it is home, or its link leads on
---     place_after s i           the place to go on from, where the place i leads to s: i itself if that is no place
+--     is_home b reel x         the test whether it is
+--     on_link n o              where the link o leads among n places: to one of them, or nowhere
+--     next_of b reel n x       where the pair x leads among n places: it is home, or its link leads on
+--     place_after s i          the place to go on from, where the place i leads to s: i itself if that is no place
 --     Leads b reel xs i ps     from the place i the links lead home through the points ps: the point of i is the first, the reel the last
 --     Counts b reel xs i o     o is how many points lead home from the place i, or none if no points do
 --     Reversed b reel xs i qs  qs are the points that lead home from the place i, the reel first

@@ -3,8 +3,8 @@
 --     Pointless m q            the reel or the aim is no point of the map
 --     Judged m q o             o is what is wrong with q, before any search: 12, then 13, or nothing
 --     headed m q n             the head of a chart of n pairs
---     or_too_large o             the number in o, or refusal 14
---     kept_by r, head_of m q r   how many places a chart keeps, and its head: none where it is refused
+--     or_too_large o           the number in o, or refusal 14
+--     kept_by r, head_of m q r  how many places a chart keeps, and its head: none where it is refused
 --     VacantPlace b c x        x is a vacant place: point 0, the unit, zero, no link
 --     VacantRecord c w         w is a vacant queue place: zero and zero, slot 0
 use Rattle.std.specs.Prelude.{◌≡◌, ℕ, ◌<◌, ◌≤◌, ◌⊎◌, Some, None, Ok, Err, Option, Result}

@@ -1,7 +1,7 @@
 -- The pairs of places as keys of the index. Assumes nothing.
 --     pair_hash p d     the hash of a point p and the hash d of a class
 --     pair_keys b       pairs as keys: a key means its point and the element of its class
---     pairing b p g    the point p together with the class g
+--     pairing b p g     the point p together with the class g
 --     pair_of b x       what the pair x means
 --     pair_at b xs i    what the pair at the place i of xs means; none past the end
 use Rattle.std.specs.Prelude.{ℕ, ◌+◌, ◌*◌, ◌/◌, ◌%◌, ◌^◌, List, Some, None, Option}
