@@ -20,10 +20,10 @@ LET = re.compile(r"\blet (" + NAME + r")(?= *[:=])")
 IMPORT = re.compile(r"\buse Rattle\.(\w+)\.[^{;\n]*\{([^}]*)\}")
 MADE = re.compile(r"^(returns|loop|decreases|invariant|overflow|bounds|offset-bounds|in|then|else|if|ghost)-|-requires\b")
 # functions of the library by whose names lemmas are called
-LIBRARY = {"length", "take", "drop", "set", "cond", "swap", "replicate", "map", "sum", "slice_index_or", "get_or", "set_same", "mirror"}
+LIBRARY = {"length", "take", "drop", "set", "cond", "swap", "replicate", "map", "sum", "get_or", "set_same", "mirror"}
 # names that would fall together with others
 APART = {"lane-at": "grid_site-lane_at", "pair-at": "pair_at-stands", "two_at": "two_at-bytes"}
-WORDS = {"getD": "slice_index_or", "isEq": "is_eq"}
+WORDS = {"getD": "get_or", "isEq": "is_eq"}
 
 
 def files(top):

@@ -15,7 +15,7 @@ use Rattle.tables.specs.Queues.{places, waiting, Kept, Popped}
 use Rattle.tables.specs.Indexes.{Names, Absent, Indexed}
 use Rattle.tables.proofs.Meeting.{names_within}
 use Rattle.tables.proofs.Swapping.{rewritten}
-use Rattle.tables.proofs.Clearing.{slice_index_or-vacant, indexed_vacant}
+use Rattle.tables.proofs.Clearing.{get_or-vacant, indexed_vacant}
 use Rattle.tables.proofs.Covering.{covers_none, covers_inserts, covers_swapped, absent_covered}
 use Rattle.tables.proofs.Entering.{inserts_names, inserts_keeps_names, inserts_length, inserts_vacant}
 use Rattle.charts.specs.declared.chart.Pair.{Pair}
@@ -360,7 +360,7 @@ module _ {C K : Type 0} (m : Site) (lanes : LawfulLanes m) (estimates : LawfulEs
           };
           progress = progress_started m law b.kind b.element c.costs q.reel q.aim q.cable (set xs 0 v) v here w (omega (arith, long)) (stands-set-same xs 0 v some) vp vc vk vl;
           indexed = adds.keeps (pair_at b (take 1 (set xs 0 v))) (indexed_next b xs slots 0 (omega arith) no_keys v some) (key_next b xs slots 0 (omega arith) no_keys v some)
-              (absent_next b xs slots 0 (omega arith) no_keys v some (λ i has. let z : has.0 + 1 ≡ 0 = sym has.1 ∙ ap (λ (l : List ℕ). get_or l i 0) vacant ∙ slice_index_or-vacant (length slots) i in omega arith));
+              (absent_next b xs slots 0 (omega arith) no_keys v some (λ i has. let z : has.0 + 1 ≡ 0 = sym has.1 ∙ ap (λ (l : List ℕ). get_or l i 0) vacant ∙ get_or-vacant (length slots) i in omega arith));
           covers = covers_inserts ((pair_keys b).hash (pair_of b v)) 0 slots slots' adds.slot adds.inserts (covers_none slots);
           waits = waits_added m c.costs q.aim xs slots (waiting queue) 0 0 nothing_waits (omega arith) some v (record { bound = bound; cost = v.cost; slot = adds.slot }) (refl, e)
               slots' (inserts_vacant ((pair_keys b).hash (pair_of b v)) 0 slots slots' adds.slot adds.inserts) (inserts_names ((pair_keys b).hash (pair_of b v)) 0 slots slots' adds.slot adds.inserts)

@@ -10,7 +10,7 @@ use Rattle.kinds.specs.Maps.{Site}
 use Rattle.kinds.specs.Costs.{CostKind}
 use Rattle.kinds.specs.Reaches.{tail}
 use Rattle.tables.specs.Indexes.{Names}
-use Rattle.tables.proofs.Swapping.{rewritten, names_last, slice_index_or_rewritten}
+use Rattle.tables.proofs.Swapping.{rewritten, names_last, get_or_rewritten}
 use Rattle.charts.specs.declared.chart.Pair.{Pair}
 use Rattle.charts.specs.Charts.{Stands}
 use Rattle.charts.proofs.Stands.{stands_unique, stands-set-same, stands_unset}
@@ -83,7 +83,7 @@ module _ {C K : Type 0} (m : Site) (k : CostKind K) (aim : Option ℕ) (xs : Lis
       -- a slot that named another place does so still
       same_name : (i e : ℕ) → Names slots i e → (e ≡ j → ⊥) → (e ≡ t → ⊥) → Names now_slots i e
       same_name i e nm nj nt =
-          slice_index_or_rewritten slots x.slot u j t names names' i
+          get_or_rewritten slots x.slot u j t names names' i
           (λ f. nj (one x.slot j i e (sym f) names nm))
           (λ f. nt (one u t i e (sym f) names' nm)) ∙ nm
         where

@@ -84,24 +84,24 @@ crossing_of UpperG = cross.Backwards Seven
 abbrev pub alphabet : List Letter
 alphabet = LowerA ∷ UpperA ∷ LowerB ∷ UpperB ∷ LowerC ∷ UpperC ∷ LowerD ∷ UpperD ∷ LowerE ∷ UpperE ∷ LowerF ∷ UpperF ∷ LowerG ∷ UpperG ∷ []
 
-slice_index_or_rank : (a : Letter) → slice_index_or alphabet (rank_of a) LowerA ≡ a
-slice_index_or_rank LowerA = refl
-slice_index_or_rank UpperA = refl
-slice_index_or_rank LowerB = refl
-slice_index_or_rank UpperB = refl
-slice_index_or_rank LowerC = refl
-slice_index_or_rank UpperC = refl
-slice_index_or_rank LowerD = refl
-slice_index_or_rank UpperD = refl
-slice_index_or_rank LowerE = refl
-slice_index_or_rank UpperE = refl
-slice_index_or_rank LowerF = refl
-slice_index_or_rank UpperF = refl
-slice_index_or_rank LowerG = refl
-slice_index_or_rank UpperG = refl
+get_or_rank : (a : Letter) → slice_index_or alphabet (rank_of a) LowerA ≡ a
+get_or_rank LowerA = refl
+get_or_rank UpperA = refl
+get_or_rank LowerB = refl
+get_or_rank UpperB = refl
+get_or_rank LowerC = refl
+get_or_rank UpperC = refl
+get_or_rank LowerD = refl
+get_or_rank UpperD = refl
+get_or_rank LowerE = refl
+get_or_rank UpperE = refl
+get_or_rank LowerF = refl
+get_or_rank UpperF = refl
+get_or_rank LowerG = refl
+get_or_rank UpperG = refl
 
 pub rank_same : (a b : Letter) → rank_of a ≡ rank_of b → a ≡ b
-rank_same a b e = sym (slice_index_or_rank a) ∙ ap (λ n. get_or alphabet n LowerA) e ∙ slice_index_or_rank b
+rank_same a b e = sym (get_or_rank a) ∙ ap (λ n. get_or alphabet n LowerA) e ∙ get_or_rank b
 
 pub turned-turned : (a : Letter) → turned (turned a) ≡ a
 turned-turned LowerA = refl

@@ -13,9 +13,9 @@ use Rattle.plans.specs.GridSteps.{written, Holds}
 use Rattle.plans.proofs.GridPlaces.{place_below, places_fit, same_place, cond_hit, cond_miss, length-written}
 
 -- the risk of a point after one weigh command
-slice_index_or-set_risk : (w h : ℕ) (m : List ℕ) (c r d q x : ℕ) → w ≤ 64 → h ≤ 64 → length m ≡ 10240 → c < w → r < h → d < w → q < h
+get_or-set_risk : (w h : ℕ) (m : List ℕ) (c r d q x : ℕ) → w ≤ 64 → h ≤ 64 → length m ≡ 10240 → c < w → r < h → d < w → q < h
     → get_or (set m (place w d q) x) (place w c r) 0 ≡ cond (eqb d c && eqb q r) x (get_or m (place w c r) 0)
-slice_index_or-set_risk w h m c r d q x wl hl long cl rl dl ql =
+get_or-set_risk w h m c r d q x wl hl long cl rl dl ql =
     elim (cases_eq (place w c r) (place w d q)) [
       | inl e ↦
           let s = same_place w c r d q cl dl e in
@@ -36,21 +36,21 @@ risk_written w h s before (block d q ∷ cs) m c r wl hl long a cl rl =
     ∙ ap (λ k. risk_after k cs c r) (get_or-set_other m (4096 + place w d q) (place w c r) 1 0 (λ e. omega (arith, e, place_below w h c r cl rl, places_fit w h wl hl)))
 risk_written w h s before (weigh d q x ∷ cs) m c r wl hl long a cl rl =
     risk_written w h s (before ++ (weigh d q x ∷ [])) cs (set m (place w d q) x) c r wl hl (length-set m (place w d q) x ∙ long) a.1 cl rl
-    ∙ ap (λ k. risk_after k cs c r) (slice_index_or-set_risk w h m c r d q x wl hl long cl rl a.0.1.0 a.0.1.1)
+    ∙ ap (λ k. risk_after k cs c r) (get_or-set_risk w h m c r d q x wl hl long cl rl a.0.1.0 a.0.1.1)
 risk_written w h s before (point n ∷ cs) m c r wl hl long a cl rl = absurd a.0.0
 risk_written w h s before (join e f l x y ∷ cs) m c r wl hl long a cl rl = absurd a.0.0
 
 -- what is written nowhere is as it was
-slice_index_or-written_other : (w h s : ℕ) (before cs : List Command) (m : List ℕ) (i : ℕ) → AllGood (grid w h s) before cs
+get_or-written_other : (w h s : ℕ) (before cs : List Command) (m : List ℕ) (i : ℕ) → AllGood (grid w h s) before cs
     → ((c r : ℕ) → c < w → r < h → i ≡ place w c r → ⊥) → ((c r : ℕ) → c < w → r < h → i ≡ 4096 + place w c r → ⊥) → get_or (written w m cs) i 0 ≡ get_or m i 0
-slice_index_or-written_other w h s before [] m i a u v = refl
-slice_index_or-written_other w h s before (post d q ∷ cs) m i a u v = slice_index_or-written_other w h s (before ++ (post d q ∷ [])) cs m i a.1 u v
-slice_index_or-written_other w h s before (block d q ∷ cs) m i a u v =
-    slice_index_or-written_other w h s (before ++ (block d q ∷ [])) cs (set m (4096 + place w d q) 1) i a.1 u v ∙ get_or-set_other m (4096 + place w d q) i 1 0 (v d q a.0.1.0 a.0.1.1)
-slice_index_or-written_other w h s before (weigh d q x ∷ cs) m i a u v =
-    slice_index_or-written_other w h s (before ++ (weigh d q x ∷ [])) cs (set m (place w d q) x) i a.1 u v ∙ get_or-set_other m (place w d q) i x 0 (u d q a.0.1.0 a.0.1.1)
-slice_index_or-written_other w h s before (point n ∷ cs) m i a u v = absurd a.0.0
-slice_index_or-written_other w h s before (join e f l x y ∷ cs) m i a u v = absurd a.0.0
+get_or-written_other w h s before [] m i a u v = refl
+get_or-written_other w h s before (post d q ∷ cs) m i a u v = get_or-written_other w h s (before ++ (post d q ∷ [])) cs m i a.1 u v
+get_or-written_other w h s before (block d q ∷ cs) m i a u v =
+    get_or-written_other w h s (before ++ (block d q ∷ [])) cs (set m (4096 + place w d q) 1) i a.1 u v ∙ get_or-set_other m (4096 + place w d q) i 1 0 (v d q a.0.1.0 a.0.1.1)
+get_or-written_other w h s before (weigh d q x ∷ cs) m i a u v =
+    get_or-written_other w h s (before ++ (weigh d q x ∷ [])) cs (set m (place w d q) x) i a.1 u v ∙ get_or-set_other m (place w d q) i x 0 (u d q a.0.1.0 a.0.1.1)
+get_or-written_other w h s before (point n ∷ cs) m i a u v = absurd a.0.0
+get_or-written_other w h s before (join e f l x y ∷ cs) m i a u v = absurd a.0.0
 
 -- a flag that stands stays
 flag_stays : (m : List ℕ) (j i : ℕ) → j < length m → get_or m i 0 ≡ 1 → get_or (set m j 1) i 0 ≡ 1
@@ -97,8 +97,8 @@ free_written w h s before (weigh d q x ∷ cs) m c r wl hl a cl rl n =
 free_written w h s before (point k ∷ cs) m c r wl hl a cl rl n = absurd a.0.0
 free_written w h s before (join e f l x y ∷ cs) m c r wl hl a cl rl n = absurd a.0.0
 
-slice_index_or-blank : (i : ℕ) → get_or blank i 0 ≡ 0
-slice_index_or-blank i =
+get_or-blank : (i : ℕ) → get_or blank i 0 ≡ 0
+get_or-blank i =
     elim (cases_lt i 10240) [ inl l ↦ get_or-replicate 10240 i 0 0 l | inr l ↦ get_or_past blank i 0 (omega (arith, length-replicate {A = ℕ} 10240 0)) ]
 
 -- what was written in order is what the commands say point by point
@@ -114,13 +114,13 @@ tells_from_holds cs g m size good held =
     record {
       posted = held.posted;
       long = ap length held.wrote ∙ (length-written w blank cs ∙ long);
-      risks = λ c r cl rl. at (place w c r) ∙ (risk_written w h s [] cs blank c r wl hl long good cl rl ∙ ap (λ k. risk_after k cs c r) (slice_index_or-blank (place w c r)));
+      risks = λ c r cl rl. at (place w c r) ∙ (risk_written w h s [] cs blank c r wl hl long good cl rl ∙ ap (λ k. risk_after k cs c r) (get_or-blank (place w c r)));
       blocked = λ c r cl rl b. at (4096 + place w c r) ∙ flag_written w h s [] cs blank c r wl hl long good cl rl (inl b);
-      free = λ c r cl rl n. at (4096 + place w c r) ∙ (free_written w h s [] cs blank c r wl hl good cl rl n ∙ slice_index_or-blank (4096 + place w c r));
-      beyond = λ i l u. at i ∙ (slice_index_or-written_other w h s [] cs blank i good
+      free = λ c r cl rl n. at (4096 + place w c r) ∙ (free_written w h s [] cs blank c r wl hl good cl rl n ∙ get_or-blank (4096 + place w c r));
+      beyond = λ i l u. at i ∙ (get_or-written_other w h s [] cs blank i good
           (λ c r cl rl e. omega (arith, e, place_below w h c r cl rl))
-          (λ c r cl rl e. omega (arith, e)) ∙ slice_index_or-blank i);
-      after = λ i l. at i ∙ (slice_index_or-written_other w h s [] cs blank i good
+          (λ c r cl rl e. omega (arith, e)) ∙ get_or-blank i);
+      after = λ i l. at i ∙ (get_or-written_other w h s [] cs blank i good
           (λ c r cl rl e. omega (arith, e, place_below w h c r cl rl))
-          (λ c r cl rl e. omega (arith, e, place_below w h c r cl rl)) ∙ slice_index_or-blank i);
+          (λ c r cl rl e. omega (arith, e, place_below w h c r cl rl)) ∙ get_or-blank i);
     }

@@ -57,8 +57,8 @@ at_from_posted (point s ∷ cs) c h = at_from_posted cs c h
 at_from_posted (join a b l x y ∷ cs) c h = at_from_posted cs c h
 
 -- a post that the record holds is one of the commands'
-slice_index_or_placed : (cs : List Command) (g : Grid) (k : ℕ) → Placed cs g → k < posts cs → get_or g.posts k nowhere ≡ get_or (posts_of cs) k nowhere
-slice_index_or_placed cs g k h l =
+get_or_placed : (cs : List Command) (g : Grid) (k : ℕ) → Placed cs g → k < posts cs → get_or g.posts k nowhere ≡ get_or (posts_of cs) k nowhere
+get_or_placed cs g k h l =
     let short : k < length (posts_of cs) = omega (arith, length-posts_of cs) in
     ap (λ ps. get_or ps k nowhere) h.placed ∙ get_or_append_left (posts_of cs) (replicate (7 - posts cs) nowhere) nowhere k short
 
@@ -66,14 +66,14 @@ slice_index_or_placed cs g k h l =
 pub posted_from_taken : (cs : List Command) (g : Grid) (c : ℕ) → Placed cs g → Taken g c → Posted cs c
 posted_from_taken cs g c h (k, l, e) =
     let m : k < posts cs = omega (arith, h.counted) in
-    posted_from_at cs k c m (sym (ap (λ (q : Post). q.column) (slice_index_or_placed cs g k h m)) ∙ e)
+    posted_from_at cs k c m (sym (ap (λ (q : Post). q.column) (get_or_placed cs g k h m)) ∙ e)
 
 -- a column that the record has free was given by none
 pub fresh_from_free : (cs : List Command) (g : Grid) (c : ℕ) → Placed cs g → (Taken g c → ⊥) → Posted cs c → ⊥
 fresh_from_free cs g c h none q =
     let a = at_from_posted cs c q in
     let l : a.0 < posts cs = a.1 in
-    none (a.0, omega (arith, h.counted), ap (λ (q : Post). q.column) (slice_index_or_placed cs g a.0 h l) ∙ a.2)
+    none (a.0, omega (arith, h.counted), ap (λ (q : Post). q.column) (get_or_placed cs g a.0 h l) ∙ a.2)
 
 replicate_less : (n : ℕ) → n < 7 → replicate (7 - n) nowhere ≡ nowhere ∷ replicate (7 - (n + 1)) nowhere
 replicate_less n l = let e : 7 - n ≡ suc (7 - (n + 1)) = omega arith in ap (λ k. replicate k nowhere) e

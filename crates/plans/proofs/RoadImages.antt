@@ -15,33 +15,33 @@ pub image_none : blank ≡ image []
 image_none = sym (replicate-append-replicate 8192 2048 0)
 
 -- a byte of a number among four-byte numbers
-slice_index_or-fours : (ns : List ℕ) (k j : ℕ) → k < length ns → j < 4 → get_or (fours ns) (4 * k + j) 0 ≡ get_or (four (get_or ns k 0)) j 0
-slice_index_or-fours [] k j l m = absurd (omega arith)
-slice_index_or-fours (n ∷ ns) zero j l m =
+get_or-fours : (ns : List ℕ) (k j : ℕ) → k < length ns → j < 4 → get_or (fours ns) (4 * k + j) 0 ≡ get_or (four (get_or ns k 0)) j 0
+get_or-fours [] k j l m = absurd (omega arith)
+get_or-fours (n ∷ ns) zero j l m =
     let e : 4 * 0 + j ≡ j = omega arith in
     ap (λ i. get_or (four n ++ fours ns) i 0) e ∙ get_or_append_left (four n) (fours ns) 0 j m
-slice_index_or-fours (n ∷ ns) (suc k) j l m =
+get_or-fours (n ∷ ns) (suc k) j l m =
     let e : 4 * suc k + j ≡ suc (suc (suc (suc (4 * k + j)))) = omega arith in
-    ap (λ i. get_or (four n ++ fours ns) i 0) e ∙ slice_index_or-fours ns k j (omega arith) m
+    ap (λ i. get_or (four n ++ fours ns) i 0) e ∙ get_or-fours ns k j (omega arith) m
 
 module _ (xs : List ℕ) (ns : List ℕ) (front : length xs ≡ 8192) (few : length ns ≤ 512) where
   -- a byte of a survey number, and the number
-  pub slice_index_or-image : (k j : ℕ) → k < length ns → j < 4 → get_or (xs ++ padded 2048 (fours ns)) (survey_place k + j) 0 ≡ get_or (four (get_or ns k 0)) j 0
-  slice_index_or-image k j l m =
+  pub get_or-image : (k j : ℕ) → k < length ns → j < 4 → get_or (xs ++ padded 2048 (fours ns)) (survey_place k + j) 0 ≡ get_or (four (get_or ns k 0)) j 0
+  get_or-image k j l m =
       let e : 8192 + 4 * k + j - 8192 ≡ 4 * k + j = omega arith in
       get_or-append_right xs (padded 2048 (fours ns)) 8192 (survey_place k + j) 0 front (omega arith)
       ∙ ap (λ i. get_or (padded 2048 (fours ns)) i 0) e
       ∙ get_or_append_left (fours ns) (replicate (2048 - length (fours ns)) 0) 0 (4 * k + j) (omega (arith, length-fours ns))
-      ∙ slice_index_or-fours ns k j l m
+      ∙ get_or-fours ns k j l m
 
   pub number_at-image : (k : ℕ) → k < length ns → number_at (xs ++ padded 2048 (fours ns)) (survey_place k) ≡ get_or ns k 0
   number_at-image k l =
       let n = get_or ns k 0 in
       let z : survey_place k ≡ survey_place k + 0 = omega arith in
-      let a : get_or (xs ++ padded 2048 (fours ns)) (survey_place k) 0 ≡ n / 65536 / 256 = ap (λ i. get_or (xs ++ padded 2048 (fours ns)) i 0) z ∙ slice_index_or-image k 0 l (omega arith) in
-      let b : get_or (xs ++ padded 2048 (fours ns)) (survey_place k + 1) 0 ≡ n / 65536 % 256 = slice_index_or-image k 1 l (omega arith) in
-      let c : get_or (xs ++ padded 2048 (fours ns)) (survey_place k + 2) 0 ≡ n % 65536 / 256 = slice_index_or-image k 2 l (omega arith) in
-      let d : get_or (xs ++ padded 2048 (fours ns)) (survey_place k + 3) 0 ≡ n % 65536 % 256 = slice_index_or-image k 3 l (omega arith) in
+      let a : get_or (xs ++ padded 2048 (fours ns)) (survey_place k) 0 ≡ n / 65536 / 256 = ap (λ i. get_or (xs ++ padded 2048 (fours ns)) i 0) z ∙ get_or-image k 0 l (omega arith) in
+      let b : get_or (xs ++ padded 2048 (fours ns)) (survey_place k + 1) 0 ≡ n / 65536 % 256 = get_or-image k 1 l (omega arith) in
+      let c : get_or (xs ++ padded 2048 (fours ns)) (survey_place k + 2) 0 ≡ n % 65536 / 256 = get_or-image k 2 l (omega arith) in
+      let d : get_or (xs ++ padded 2048 (fours ns)) (survey_place k + 3) 0 ≡ n % 65536 % 256 = get_or-image k 3 l (omega arith) in
       omega arith
 
   -- the survey numbers that the index reads there

@@ -10,7 +10,7 @@ use Rattle.tables.proofs.Crowding.{not_full_from_few}
 use Rattle.plans.specs.Surveys.{numbers}
 use Rattle.plans.specs.Meanings.{index_of}
 use Rattle.plans.specs.RoadSteps.{listed, Known}
-use Rattle.plans.proofs.RoadPlaces.{known_from_at, slice_index_or_place_in, listed_below, below_listed, listed_append}
+use Rattle.plans.proofs.RoadPlaces.{known_from_at, get_or_place_in, listed_below, below_listed, listed_append}
 
 -- the index of the same places
 pub indexed_same : (at at' : ℕ → Option ℕ) (slots : List ℕ) → ((k : ℕ) → at k ≡ at' k) → Indexed numbers at slots → Indexed numbers at' slots
@@ -45,12 +45,12 @@ module _ (ns slots : List ℕ) (ix : Indexed numbers (listed ns) slots) where
     place_in_found k n e =
         let b = below_listed ns k n e in
         let known = known_found k n e in
-        once (index_of ns n) k known b.0 (slice_index_or_place_in ns n known ∙ sym b.1)
+        once (index_of ns n) k known b.0 (get_or_place_in ns n known ∙ sym b.1)
 
     -- a number that no slot names is not known
     pub unknown_absent : (n : ℕ) → Absent (listed ns) slots n → Known ns n → ⊥
     unknown_absent n absent known =
-        absent_covered (listed ns) slots n (length ns) all absent (index_of ns n) known (listed_below ns (index_of ns n) known ∙ ap Some (slice_index_or_place_in ns n known))
+        absent_covered (listed ns) slots n (length ns) all absent (index_of ns n) known (listed_below ns (index_of ns n) known ∙ ap Some (get_or_place_in ns n known))
 
     module _ (n : ℕ) (new : Known ns n → ⊥) (to : List ℕ) where
       grown : Indexed numbers (listed (ns ++ (n ∷ []))) slots

@@ -28,14 +28,14 @@ known_from_at (m ∷ ns) zero n l e = known_here m ns n e
 known_from_at (m ∷ ns) (suc k) n l e = known_later m ns n (known_from_at ns k n (omega arith) e)
 
 -- a known number stands at its place
-pub slice_index_or_place_in : (ns : List ℕ) (n : ℕ) → Known ns n → get_or ns (index_of ns n) 0 ≡ n
-slice_index_or_place_in [] n k = absurd (omega arith)
-slice_index_or_place_in (m ∷ ns) n k =
+pub get_or_place_in : (ns : List ℕ) (n : ℕ) → Known ns n → get_or ns (index_of ns n) 0 ≡ n
+get_or_place_in [] n k = absurd (omega arith)
+get_or_place_in (m ∷ ns) n k =
     elim (cases_eq m n) [
       | inl e ↦ ap (λ i. get_or (m ∷ ns) i 0) (place_in_same m ns n e) ∙ e
       | inr ne ↦
           let later : Known ns n = omega (arith, place_in_other m ns n ne) in
-          ap (λ i. get_or (m ∷ ns) i 0) (place_in_other m ns n ne) ∙ slice_index_or_place_in ns n later
+          ap (λ i. get_or (m ∷ ns) i 0) (place_in_other m ns n ne) ∙ get_or_place_in ns n later
     ]
 
 -- more numbers behind leave the place of a known one

@@ -6,8 +6,8 @@ use Rattle.std.proofs.lemmas.Bool.{cases_lt}
 use Rattle.tables.specs.Probes.{KeyKind}
 use Rattle.tables.specs.Indexes.{Has, Indexed}
 
-pub slice_index_or-vacant : (n i : ℕ) → get_or {A = ℕ} (replicate n 0) i 0 ≡ 0
-slice_index_or-vacant n i =
+pub get_or-vacant : (n i : ℕ) → get_or {A = ℕ} (replicate n 0) i 0 ≡ 0
+get_or-vacant n i =
     elim (cases_lt i n) [
       | inl lt ↦ get_or-replicate n i 0 0 lt
       | inr ge ↦
@@ -17,10 +17,10 @@ slice_index_or-vacant n i =
 
 pub indexed_vacant : (K : KeyKind) (at : ℕ → Option K.Meaning) (n : ℕ) → Indexed K at (replicate n 0)
 indexed_vacant K at n = record {
-  placed = λ i taken. absurd (taken (slice_index_or-vacant n i));
+  placed = λ i taken. absurd (taken (get_or-vacant n i));
   single = λ i j m a b. absurd (never i m a);
   met = λ i m a. absurd (never i m a);
 }
   where
     never : (i : ℕ) (m : K.Meaning) → Has at (replicate n 0) i m → ⊥
-    never i m (k, names, has) = let e : k + 1 ≡ 0 = sym names ∙ slice_index_or-vacant n i in omega arith
+    never i m (k, names, has) = let e : k + 1 ≡ 0 = sym names ∙ get_or-vacant n i in omega arith

@@ -4,7 +4,7 @@ use Rattle.std.proofs.lemmas.Bool.{cases_eq}
 use Rattle.tables.specs.declared.index.Inserted.TheVariants.{At}
 use Rattle.tables.specs.Indexes.{Names, Absent, Covers, Inserts}
 use Rattle.tables.proofs.Entering.{inserts_names, inserts_keeps_names}
-use Rattle.tables.proofs.Swapping.{names_first, names_last, slice_index_or_rewritten}
+use Rattle.tables.proofs.Swapping.{names_first, names_last, get_or_rewritten}
 
 pub covers_none : (slots : List ℕ) → Covers slots 0
 covers_none slots k lt = absurd (omega arith)
@@ -31,7 +31,7 @@ covers_swapped slots s t p q n names names' covers k lt =
         | inr nq ↦
             let (i, n') = covers k lt in (
               i,
-              slice_index_or_rewritten slots s t p q names names' i (λ f. np (apart i s p f n' names)) (λ f. nq (apart i t q f n' names')) ∙ n',
+              get_or_rewritten slots s t p q names names' i (λ f. np (apart i s p f n' names)) (λ f. nq (apart i t q f n' names')) ∙ n',
             )
       ]
     ]

@@ -25,8 +25,8 @@ module _ (slots : List ℕ) (s t p q : ℕ) (names : Names slots s p) (names' : 
   names_first ne = get_or-set_other (set slots s (q + 1)) t s (p + 1) 0 ne ∙ get_or-set_same slots s (q + 1) 0 (names_within slots s p names)
 
   -- any other slot has its entry
-  pub slice_index_or_rewritten : (i : ℕ) → (i ≡ s → ⊥) → (i ≡ t → ⊥) → get_or (rewritten slots s t p q) i 0 ≡ get_or slots i 0
-  slice_index_or_rewritten i ne ne' = get_or-set_other (set slots s (q + 1)) t i (p + 1) 0 ne' ∙ get_or-set_other slots s i (q + 1) 0 ne
+  pub get_or_rewritten : (i : ℕ) → (i ≡ s → ⊥) → (i ≡ t → ⊥) → get_or (rewritten slots s t p q) i 0 ≡ get_or slots i 0
+  get_or_rewritten i ne ne' = get_or-set_other (set slots s (q + 1)) t i (p + 1) 0 ne' ∙ get_or-set_other slots s i (q + 1) 0 ne
 
 -- a well-kept index stays so
 pub indexed_swapped : (K : KeyKind) (at at' : ℕ → Option K.Meaning) (slots : List ℕ) → Indexed K at slots → (s t p q : ℕ) → Names slots s p → Names slots t q →
@@ -54,7 +54,7 @@ indexed_swapped K at at' slots ix s t p q names names' swapped =
               sym swapped.other,
             )
         | inr ne ↦
-            let kept = slice_index_or_rewritten slots s t p q names names' i ne ne' in
+            let kept = get_or_rewritten slots s t p q names names' i ne ne' in
             elim (vacant_or_names slots i) [
               | inl z ↦ inl (z, kept ∙ z)
               | inr (k, n) ↦ inr (k, k, n, kept ∙ n, sym (swapped.rest k (one i k ne n) (other i k ne' n)))
