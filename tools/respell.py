@@ -4,7 +4,7 @@
 usage: python3 tools/respell.py [--list] [TOP]        TOP: the top of the repository (this one)
 
 A name that a file of specs/ or proofs/ defines, or that a 'let' there binds, is written in snake case: 'costOf' becomes 'cost_of', 'run-push' becomes 'run_push'.
-A dash stays where it joins two names of functions, as in 'length-posts_of'. Types, facts and modules keep their capitals. Names that Rattle makes
+A dash stays where it joins the names of two functions, as in 'length-posts_of'. Types, facts and modules keep their capitals. Names that Rattle makes
 (goals, steps, branches) are left as they are, and so are Rust code, strings, comments in Rust and edits that must be refused.
 It stops where two names would fall together. With --list it only prints the names.
 """
@@ -19,10 +19,15 @@ DEFINES = re.compile(r"^(\s*)(?:abbrev |unfoldable )?(?:pub )?(?:record |data )?
 LET = re.compile(r"\blet (" + NAME + r")(?= *[:=])")
 IMPORT = re.compile(r"\buse Rattle\.(\w+)\.[^{;\n]*\{([^}]*)\}")
 MADE = re.compile(r"^(returns|loop|decreases|invariant|overflow|bounds|offset-bounds|in|then|else|if|ghost)-|-requires\b")
-# functions of the library by whose names lemmas are called
-LIBRARY = {"length", "take", "drop", "set", "cond", "swap", "replicate", "map", "sum", "get_or", "set_same", "mirror"}
+# names in which a dash stays: it joins the names of two functions
+JOINED = set(
+    "act-act-turned act-turned-act acts-acts acts-empty acts-push push-push turned-turned times-empty written-push product-push crossed-single map-stored"
+    " length-fours length-lanes_in length-mirror length-padded length-posts_of length-write length-written drop-padded put-padded"
+    " get_or-blank get_or-fours get_or-image get_or-lanes_in get_or-padded get_or-set_risk get_or-vacant get_or-written_other"
+    " number_at-image other_way-other_way survey_at-listed spell_all-push".split()
+)
 # names that would fall together with others
-APART = {"lane-at": "grid_site-lane_at", "pair-at": "pair_at-stands", "two_at": "two_at-bytes"}
+APART = {"lane-at": "grid_site-lane_at", "pair-at": "pair_at-stands", "two_at": "two_at-bytes", "Ends-known": "EndsKnown"}
 WORDS = {"getD": "get_or", "isEq": "is_eq"}
 
 
@@ -51,8 +56,8 @@ def imported(top):
 
 
 def defined(top):
-    """The names that the repository defines, and those of the functions in specs/."""
-    names, functions, foreign = set(), set(), imported(top)
+    """The names that the repository defines."""
+    names, foreign = set(), imported(top)
     for path in files(top):
         if not path.endswith(".antt"):
             continue
@@ -64,26 +69,21 @@ def defined(top):
                 m = DEFINES.match(line)
                 if m and not m[3].strip().startswith("goal.") and not (goals and MADE.search(m[2])):
                     names.add(m[2])
-                    if "/specs/" in path and line.lstrip().startswith(("abbrev", "unfoldable")) and m[2][0].islower():
-                        functions.add(snake(m[2]))
                 names.update(n for n in LET.findall(line) if not MADE.search(n))
-    return names - foreign, functions
+    return names - foreign
 
 
-def respelled(name, functions):
+def respelled(name):
+    """The new name: its dash-joined parts in snake case, joined by dashes where JOINED has it so, and else by underscores."""
     if name in APART:
         return APART[name]
-    parts = [snake(p) for p in name.split("-")]
-    new = parts[0]
-    for before, after in zip(parts, parts[1:]):
-        new += ("-" if before in functions and after in functions else "_") + after
-    return new
+    flat = "_".join(snake(p) for p in name.split("-"))
+    return next((j for j in JOINED if j.replace("-", "_") == flat), flat)
 
 
 def table(top):
-    names, functions = defined(top)
-    functions |= LIBRARY
-    turned = {n: respelled(n, functions) for n in names}
+    names = defined(top)
+    turned = {n: respelled(n) for n in names}
     turned = {n: new for n, new in turned.items() if new != n}
     taken = {}
     for n in sorted(names):

@@ -14,7 +14,7 @@ use Rattle.charting.specs.Places.{Span, Distinct, Links, Progress}
 use Rattle.kinds.proofs.Orders.{under_of_eq, under_trans, less_not_under}
 use Rattle.kinds.proofs.Runs.{runs_at_reel}
 use Rattle.kinds.proofs.Limits.{run_bound}
-use Rattle.charts.proofs.Stands.{stands_some, stands_unique, stands-set-same, stands-set_other, stands_unset, stands-take, stands_untake}
+use Rattle.charts.proofs.Stands.{stands_some, stands_unique, stands_set_same, stands_set_other, stands_unset, stands_take, stands_untake}
 use Rattle.charting.proofs.Picks.{done}
 use Rattle.charting.proofs.Settles.{started, found_runs, found_reach, lane_reach, settled_no_dearer, resaid, finished, no_lane, too_far, no_cheaper, opened, taken}
 use Rattle.charting.proofs.Pigeons.{not_crowded, holds_at, at_holds, sound_at, crowded}
@@ -133,9 +133,9 @@ module _ {C K : Type 0} (m : Site) (law : Lawful m) (G : ClassKind) (el : C → 
             searched =
                 resaid m law G k reel aim cable _ _ (i + 1) _ inv (Span G el ys 0 s) (Span G el ys s (s + 1)) (Span G el ys (s + 1) n')
                 (span_same G el ys xs 0 s (λ a z le lt. stands_unset xs j a v z (low a (lt_more a lt))))
-                (span_same G el xs ys 0 s (λ a z le lt. stands-set_other xs j a v z (low a (lt_more a lt))))
+                (span_same G el xs ys 0 s (λ a z le lt. stands_set_other xs j a v z (low a (lt_more a lt))))
                 (span_same G el ys xs s (s + 1) (λ a z le lt. stands_unset xs j a v z (low a lt)))
-                (span_same G el xs ys s (s + 1) (λ a z le lt. stands-set_other xs j a v z (low a lt)))
+                (span_same G el xs ys s (s + 1) (λ a z le lt. stands_set_other xs j a v z (low a lt)))
                 (λ q h b a. a)
                 (λ q h b a. a);
             distinct = distinct;
@@ -155,7 +155,7 @@ module _ {C K : Type 0} (m : Site) (law : Lawful m) (G : ClassKind) (el : C → 
           low a lt e = omega arith
 
           at_v : Stands ys j v
-          at_v = stands-set-same xs j v (omega arith)
+          at_v = stands_set_same xs j v (omega arith)
 
           is_v : (a : ℕ) (z : Pair C K) → a ≡ j → Stands ys a z → z ≡ v
           is_v a z eq at = stands_unique ys j z v (subst (λ (b : ℕ). Stands ys b z) eq at) at_v
@@ -187,7 +187,7 @@ module _ {C K : Type 0} (m : Site) (law : Lawful m) (G : ClassKind) (el : C → 
                 | inl eq ↦
                     let t = dearer z (subst (λ (c : ℕ). c < n) eq lt) (subst (λ (c : ℕ). Stands xs c z) eq at) in
                     inr (sym f ∙ t.0, sym f' ∙ t.1, subst (λ (c : K). Under k.order (onward k x.cost l) c) d t.2)
-                | inr ne ↦ inl (a, z, le, omega arith, stands-set_other xs j a v z ne at, f, f', d)
+                | inr ne ↦ inl (a, z, le, omega arith, stands_set_other xs j a v z ne at, f, f', d)
               ]
 
           inv : Searched m G k reel aim cable (Span G el xs 0 s) (Span G el xs s (s + 1)) (i + 1) (Span G el ys (s + 1) n')
@@ -218,11 +218,11 @@ module _ {C K : Type 0} (m : Site) (law : Lawful m) (G : ClassKind) (el : C → 
               ]
 
           at_x : Stands ys s x
-          at_x = stands-set_other xs j s v x (low s (omega arith)) at
+          at_x = stands_set_other xs j s v x (low s (omega arith)) at
 
           moved : (a : ℕ) (z : Pair C K) → Links m G el k reel aim cable xs (s + 1) a z → Links m G el k reel aim cable ys (s + 1) a z
           moved a z (inl r) = inl r
-          moved a z (inr (no-reel, (h, z', lk, ha, hs, ath, pre))) = inr (no-reel, (h, z', lk, ha, hs, stands-set_other xs j h v z' (low h hs) ath, pre))
+          moved a z (inr (no-reel, (h, z', lk, ha, hs, ath, pre))) = inr (no-reel, (h, z', lk, ha, hs, stands_set_other xs j h v z' (low h hs) ath, pre))
 
           linked : (a : ℕ) (z : Pair C K) → a < n' → Stands ys a z → Links m G el k reel aim cable ys (s + 1) a z
           linked a z la ata =
@@ -516,7 +516,7 @@ module _ {C K : Type 0} (m : Site) (law : Lawful m) (G : ClassKind) (el : C → 
     pub progress_complete : (p : ℕ) (g : G.Element) → Reach m G k reel aim cable p g → Holds m G el k reel aim cable (take n xs) p g
     progress_complete p g r =
         let (c, (e, y, le, lt, at, f, f', d)) = done m law G k reel aim cable _ _ i (idle xs n i n chart) (span_none G el xs n) p g r in
-        holds_at m G el k reel aim cable (take n xs) e y p g (subst (λ (z : ℕ). e < z) (sym long) lt) (stands-take xs n e y lt at) (f, f')
+        holds_at m G el k reel aim cable (take n xs) e y p g (subst (λ (z : ℕ). e < z) (sym long) lt) (stands_take xs n e y lt at) (f, f')
 
     pub progress_finished : Finished m G el k reel aim cable (take n xs)
     progress_finished =
@@ -551,7 +551,7 @@ module _ {C K : Type 0} (m : Site) (law : Lawful m) (G : ClassKind) (el : C → 
                 lk,
                 subst (λ (c : ℕ). h < c) (sym (length-take-le a (take n xs) (subst (λ (c : ℕ). a ≤ c) (sym long) (omega arith)))) ha,
                 λ d.
-                    subst (λ (u : Pair C K). Precedes m G el k reel aim cable u y) (sym (stands-take (take n xs) a h z ha (stands-take xs n h z hn ath) d)) pre,
+                    subst (λ (u : Pair C K). Precedes m G el k reel aim cable u y) (sym (stands_take (take n xs) a h z ha (stands_take xs n h z hn ath) d)) pre,
               ),
             )
 

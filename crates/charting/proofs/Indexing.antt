@@ -8,7 +8,7 @@ use Rattle.tables.proofs.Renaming.{indexed_elsewhere, names_once}
 use Rattle.tables.proofs.Swapping.{rewritten, indexed_swapped}
 use Rattle.charts.specs.declared.chart.Pair.{Pair}
 use Rattle.charts.specs.Charts.{Stands}
-use Rattle.charts.proofs.Stands.{stands_some, stands_unique, stands-set-same, stands-set_other, stands-take, stands_untake}
+use Rattle.charts.proofs.Stands.{stands_some, stands_unique, stands_set_same, stands_set_other, stands_take, stands_untake}
 use Rattle.steps.specs.Keys.{pair_keys, pairing, pair_of, pair_at}
 use Rattle.steps.proofs.Keys.{pair_at-stands, pair_past, at_pair}
 
@@ -16,7 +16,7 @@ module _ {C K : Type 0} (b : Classes C) where
   -- the key of a found place
   pub key_of : (xs : List (Pair C K)) (n i : ℕ) (x : Pair C K) → n ≤ length xs → i < n → Stands xs i x → pair_at b (take n xs) i ≡ Some (pair_of b x)
   key_of xs n i x room lt at =
-      pair_at-stands b (take n xs) i x (subst (λ a. i < a) (sym (length-take-le n xs room)) lt) (stands-take xs n i x lt at)
+      pair_at-stands b (take n xs) i x (subst (λ a. i < a) (sym (length-take-le n xs room)) lt) (stands_take xs n i x lt at)
 
   pub key_past : (xs : List (Pair C K)) (n i : ℕ) → n ≤ length xs → n ≤ i → pair_at b (take n xs) i ≡ None
   key_past xs n i room le = pair_past b (take n xs) i (subst (λ a. a ≤ i) (sym (length-take-le n xs room)) le)
@@ -90,10 +90,10 @@ module _ {C K : Type 0} (b : Classes C) where
         (λ i k names.
         let lt = named_found i k names in
         sym (same_key xs (set xs n v) n (n + 1) k k room (omega (arith, length-set xs n v)) lt (omega arith)
-        (λ x at. (x, stands-set_other xs n k v x (λ e. omega arith) at, refl))))
+        (λ x at. (x, stands_set_other xs n k v x (λ e. omega arith) at, refl))))
 
     pub key_next : (v : Pair C K) → n < length xs → pair_at b (take (n + 1) (set xs n v)) n ≡ Some (pair_of b v)
-    key_next v more = key_of (set xs n v) (n + 1) n v (omega (arith, length-set xs n v)) (omega arith) (stands-set-same xs n v more)
+    key_next v more = key_of (set xs n v) (n + 1) n v (omega (arith, length-set xs n v)) (omega arith) (stands_set_same xs n v more)
 
     -- no slot had its key, so none has it then
     pub absent_next : (v : Pair C K) → n < length xs → Absent (pair_at b (take n xs)) slots (pair_of b v) → Absent (pair_at b (take (n + 1) (set xs n v))) slots (pair_of b v)
@@ -103,7 +103,7 @@ module _ {C K : Type 0} (b : Classes C) where
           k,
           names,
           sym (same_key xs (set xs n v) n (n + 1) k k room (omega (arith, length-set xs n v)) lt (omega arith)
-              (λ x at. (x, stands-set_other xs n k v x (λ e. omega arith) at, refl))) ∙ has,
+              (λ x at. (x, stands_set_other xs n k v x (λ e. omega arith) at, refl))) ∙ has,
         )
 
     -- the same pair is written again to its place
@@ -117,10 +117,10 @@ module _ {C K : Type 0} (b : Classes C) where
             elim (cases_eq k j) [
               | inl f ↦ (
                 v,
-                subst (λ a. Stands (set xs j v) a v) (sym f) (stands-set-same xs j v (omega arith)),
+                subst (λ a. Stands (set xs j v) a v) (sym f) (stands_set_same xs j v (omega arith)),
                 e ∙ ap (pair_of b) (stands_unique xs j y x at (subst (λ a. Stands xs a x) f atk)),
               )
-              | inr ne ↦ (x, stands-set_other xs j k v x ne atk, refl)
+              | inr ne ↦ (x, stands_set_other xs j k v x ne atk, refl)
             ]
 
   -- only found places have keys

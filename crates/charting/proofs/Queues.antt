@@ -7,12 +7,12 @@ use Rattle.tables.specs.Queues.{places, waiting, spare, Unchanged, Pushed, Lower
 use Rattle.charts.specs.Charts.{Stands}
 
 -- those that wait and the free places are all
-pub all-places : {X : Type 0} (q : Queue X) → length (places q) ≡ length (waiting q) + length (spare q)
-all-places q = omega (arith, length-take q.count (places q), length-drop q.count (places q))
+pub all_places : {X : Type 0} (q : Queue X) → length (places q) ≡ length (waiting q) + length (spare q)
+all_places q = omega (arith, length-take q.count (places q), length-drop q.count (places q))
 
 -- where fewer wait than can, a place is free
 room_left : {X : Type 0} (q : Queue X) → length (waiting q) < length (places q) → 0 < length (spare q)
-room_left q lt = omega (arith, all-places q)
+room_left q lt = omega (arith, all_places q)
 
 -- and one more waits
 pub pushes_so : {X : Type 0} (o : Order X) (q p : Queue X) (x : X) (r : Bool) → length (waiting q) < length (places q) → r ≡ ltb 0 (length (spare q)) →

@@ -20,7 +20,7 @@ use Rattle.tables.proofs.Covering.{covers_none, covers_inserts, covers_swapped, 
 use Rattle.tables.proofs.Entering.{inserts_names, inserts_keeps_names, inserts_length, inserts_vacant}
 use Rattle.charts.specs.declared.chart.Pair.{Pair}
 use Rattle.charts.specs.Charts.{Stands}
-use Rattle.charts.proofs.Stands.{stands_some, stands_unique, stands-set-same, stands_read}
+use Rattle.charts.proofs.Stands.{stands_some, stands_unique, stands_set_same, stands_read}
 use Rattle.steps.specs.declared.asked.Asked.{Asked}
 use Rattle.steps.specs.declared.open.Open.{Open}
 use Rattle.steps.specs.Opens.{by_bound}
@@ -358,7 +358,7 @@ module _ {C K : Type 0} (m : Site) (lanes : LawfulLanes m) (estimates : LawfulEs
             queued = cap ∙ sized.queued ∙ sym long;
             slotted = inserts_length ((pair_keys b).hash (pair_of b v)) 0 slots slots' adds.slot adds.inserts ∙ sized.slotted ∙ ap (λ a. 2 * a) (sym long);
           };
-          progress = progress_started m law b.kind b.element c.costs q.reel q.aim q.cable (set xs 0 v) v here w (omega (arith, long)) (stands-set-same xs 0 v some) vp vc vk vl;
+          progress = progress_started m law b.kind b.element c.costs q.reel q.aim q.cable (set xs 0 v) v here w (omega (arith, long)) (stands_set_same xs 0 v some) vp vc vk vl;
           indexed = adds.keeps (pair_at b (take 1 (set xs 0 v))) (indexed_next b xs slots 0 (omega arith) no_keys v some) (key_next b xs slots 0 (omega arith) no_keys v some)
               (absent_next b xs slots 0 (omega arith) no_keys v some (λ i has. let z : has.0 + 1 ≡ 0 = sym has.1 ∙ ap (λ (l : List ℕ). get_or l i 0) vacant ∙ get_or-vacant (length slots) i in omega arith));
           covers = covers_inserts ((pair_keys b).hash (pair_of b v)) 0 slots slots' adds.slot adds.inserts (covers_none slots);

@@ -13,7 +13,7 @@ use Rattle.tables.specs.Indexes.{Names}
 use Rattle.tables.proofs.Swapping.{rewritten, names_last, get_or_rewritten}
 use Rattle.charts.specs.declared.chart.Pair.{Pair}
 use Rattle.charts.specs.Charts.{Stands}
-use Rattle.charts.proofs.Stands.{stands_unique, stands-set-same, stands_unset}
+use Rattle.charts.proofs.Stands.{stands_unique, stands_set_same, stands_unset}
 use Rattle.steps.specs.declared.open.Open.{Open}
 use Rattle.charting.specs.Waits.{waiting_at, Serves, Waits}
 use Rattle.charting.proofs.Elements.{has_first, has_later, has_cases}
@@ -170,7 +170,7 @@ module _ {C K : Type 0} (m : Site) (k : CostKind K) (aim : Option ℕ) (xs : Lis
         high,
         record {
           names = subst (λ a. Names slots a j) (sym same) names;
-          priced = λ z at. subst (λ (w : Pair C K). Prices y w) (stands_unique (set xs j v) j v z (stands-set-same xs j v room) at) prices;
+          priced = λ z at. subst (λ (w : Pair C K). Prices y w) (stands_unique (set xs j v) j v z (stands_set_same xs j v room) at) prices;
         },
       )
 
@@ -231,7 +231,7 @@ module _ {C K : Type 0} (m : Site) (k : CostKind K) (aim : Option ℕ) (xs : Lis
           n,
           low,
           omega arith,
-          record { names = names; priced = λ z at. subst (λ (w : Pair C K). Prices x w) (stands_unique (set xs n v) n v z (stands-set-same xs n v room) at) prices },
+          record { names = names; priced = λ z at. subst (λ (w : Pair C K). Prices x w) (stands_unique (set xs n v) n v z (stands_set_same xs n v room) at) prices },
         )
 
         once : (s : ℕ) → waiting_at s vs ≤ 1

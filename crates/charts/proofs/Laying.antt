@@ -22,7 +22,7 @@ use Rattle.charts.specs.Asking.{covering, on_ok, standing_of, asked_at}
 use Rattle.charts.specs.Finding.{is_pair, Matches, FirstAt}
 use Rattle.charts.specs.Trails.{Home, Leads, Runs, RunsIn, WritesRun}
 use Rattle.charts.specs.Laid.{stops, Laid, LaysTruly}
-use Rattle.charts.proofs.Stands.{none_below, stands_some, stands_unique, stands-take}
+use Rattle.charts.proofs.Stands.{none_below, stands_some, stands_unique, stands_take}
 use Rattle.charts.proofs.Searches.{pair_passes, passes_pair}
 use Rattle.charts.proofs.Trails.{some_same, leads_on}
 use Rattle.charts.proofs.Joining.{sound_has, covered_tail, standing_is, asked_covers}
@@ -66,7 +66,7 @@ module _ {C K : Type 0} (m : Site) (law : Lawful m) (b : Classes C) (c : Costs K
           let len : length (take i xs) ≡ i = length-take-le i xs (omega arith) in
           let k : j < i = omega arith in
           let (y, aty) = stands_some xs j (omega arith) in
-          inr (off, (j, y, e, k, aty, subst (λ (z : Pair C K). Precedes m b.kind b.element c.costs reel aim cable z x) (stands-take xs i j y k aty x) (before x)))
+          inr (off, (j, y, e, k, aty, subst (λ (z : Pair C K). Precedes m b.kind b.element c.costs reel aim cable z x) (stands_take xs i j y k aty x) (before x)))
 
   -- from every place the links lead home
   pub leads_home : (n i : ℕ) → i < n → i < length xs → (ps : List ℕ) × Leads b reel xs i ps

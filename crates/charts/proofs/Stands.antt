@@ -20,17 +20,17 @@ module _ {X : Type 0} where
   pub stands_unique : (xs : List X) (i : ℕ) (x y : X) → Stands xs i x → Stands xs i y → x ≡ y
   stands_unique xs i x y a b = sym (a x) ∙ b x
 
-  pub stands-set-same : (xs : List X) (i : ℕ) (v : X) → i < length xs → Stands (set xs i v) i v
-  stands-set-same xs i v h d = get_or-set_same xs i v d h
+  pub stands_set_same : (xs : List X) (i : ℕ) (v : X) → i < length xs → Stands (set xs i v) i v
+  stands_set_same xs i v h d = get_or-set_same xs i v d h
 
-  pub stands-set_other : (xs : List X) (i j : ℕ) (v x : X) → j ≢ i → Stands xs j x → Stands (set xs i v) j x
-  stands-set_other xs i j v x ne a d = get_or-set_other xs i j v d ne ∙ a d
+  pub stands_set_other : (xs : List X) (i j : ℕ) (v x : X) → j ≢ i → Stands xs j x → Stands (set xs i v) j x
+  stands_set_other xs i j v x ne a d = get_or-set_other xs i j v d ne ∙ a d
 
   pub stands_unset : (xs : List X) (i j : ℕ) (v x : X) → j ≢ i → Stands (set xs i v) j x → Stands xs j x
   stands_unset xs i j v x ne a d = sym (get_or-set_other xs i j v d ne) ∙ a d
 
-  pub stands-take : (xs : List X) (n i : ℕ) (x : X) → i < n → Stands xs i x → Stands (take n xs) i x
-  stands-take xs n i x h a d = get_or-take n xs i d h ∙ a d
+  pub stands_take : (xs : List X) (n i : ℕ) (x : X) → i < n → Stands xs i x → Stands (take n xs) i x
+  stands_take xs n i x h a d = get_or-take n xs i d h ∙ a d
 
   pub stands_untake : (xs : List X) (n i : ℕ) (x : X) → i < n → Stands (take n xs) i x → Stands xs i x
   stands_untake xs n i x h a d = sym (get_or-take n xs i d h) ∙ a d

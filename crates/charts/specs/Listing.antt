@@ -1,8 +1,8 @@
 -- The list at a point. Assumes nothing.
 -- Here b is what classes mean and c what costs are.
---     is_at p x             the test whether the pair x is at the point p
+--     is_at p x            the test whether the pair x is at the point p
 --     priced x             the class of the pair x, with its cost
---     priced_at p xs        those of the pairs of xs at p, in their order
+--     priced_at p xs       those of the pairs of xs at p, in their order
 --     Filled b c xs p from to n    the list, which was `from`, is `to`: its first n places hold what is at p in xs, by cost and then by class, and the others are as they were
 --     ListsIn b c xs p from to r   r is how many were listed; or the list is too short for them, and as it was
 --     ListsAt b c o xs p from to r  r is that of the counted places of xs, if the chart with the head o may be asked at p; or why it may not, and the list is as it was

@@ -5,7 +5,7 @@ use Rattle.std.proofs.lemmas.Bool.{cases_lt}
 use Rattle.classes.specs.declared.letters.Letter.{Letter}
 use Rattle.classes.specs.declared.letters.Letter.TheVariants.{LowerA}
 use Rattle.classes.specs.Letters.{turned, turned-turned}
-use Rattle.classes.specs.Reduced.{Apart, Reduced, EndsIn, act, acts, empty, push_opposite, word_same, acts_append, acts-empty, acts-apart, reduced_push}
+use Rattle.classes.specs.Reduced.{Apart, Reduced, EndsIn, act, acts, empty, push_opposite, word_same, acts_append, acts-empty, acts_apart, reduced_push}
 use Rattle.classes.specs.Words.{single}
 
 apart_front : (a : Letter) (v u : List Letter) → Apart a (v ++ u) → Apart a v
@@ -26,7 +26,7 @@ right_cancels v b a h e =
     ∙ acts-empty v (reduced_front v (b ∷ []) h)
 
 right_more : (v : List Letter) (b a : Letter) → Reduced (v ++ (b ∷ [])) → (b ≡ turned a → ⊥) → (acts (v ++ (b ∷ [])) (single (Some a))).0 ≡ (v ++ (b ∷ [])) ++ (a ∷ [])
-right_more v b a h n = acts-apart (v ++ (b ∷ [])) (single (Some a)) (reduced_push v b a h (λ e. n (opposite_from a b e)))
+right_more v b a h n = acts_apart (v ++ (b ∷ [])) (single (Some a)) (reduced_push v b a h (λ e. n (opposite_from a b e)))
 
 module _ (w : List Letter) (a : Letter) (h : Reduced w) where
   last_apart : 0 < length w → w ≡ take (length w - 1) w ++ (get_or w (length w - 1) LowerA ∷ [])

@@ -19,8 +19,8 @@ mirror_more ls ms n i p q r h =
     ∙ ap (λ b. mirror (drop (j + 1) (take n ls)) ++ (turned b ∷ [])) (sym (get_or-take n ls j LowerA low))
     ∙ ap mirror (sym (drop_more (take n ls) j LowerA inside))
 
-pub mirror-all : (ls ms : List Letter) (n i : ℕ) → i ≡ n → take i ms ≡ mirror (drop (n - i) (take n ls)) → take n ms ≡ mirror (take n ls)
-mirror-all ls ms n i e h = let z : n - i ≡ 0 = omega arith in ap (λ k. take k ms) (sym e) ∙ h ∙ ap (λ k. mirror (drop k (take n ls))) z
+pub mirror_all : (ls ms : List Letter) (n i : ℕ) → i ≡ n → take i ms ≡ mirror (drop (n - i) (take n ls)) → take n ms ≡ mirror (take n ls)
+mirror_all ls ms n i e h = let z : n - i ≡ 0 = omega arith in ap (λ k. take k ms) (sym e) ∙ h ∙ ap (λ k. mirror (drop k (take n ls))) z
 
 pub mirror_none : (ls : List Letter) (n : ℕ) → n ≤ length ls → [] ≡ mirror (drop (n - 0) (take n ls))
 mirror_none ls n p = sym (ap mirror (drop_all (n - 0) (take n ls) (omega (arith, length-take-le n ls p))))

@@ -134,5 +134,5 @@ apart_from_alike a b e p = eqb-false (rank_of a) (rank_of b) e (ap rank_of p)
 pub alike_same : (a b : Letter) → a ≡ b → alike a b ≡ true
 alike_same a b p = eq-eqb (rank_of a) (rank_of b) (ap rank_of p)
 
-pub alike-apart : (a b : Letter) → (a ≢ b) → alike a b ≡ false
-alike-apart a b h = ne_eqb (rank_of a) (rank_of b) (λ e. h (rank_same a b e))
+pub alike_apart : (a b : Letter) → (a ≢ b) → alike a b ≡ false
+alike_apart a b h = ne_eqb (rank_of a) (rank_of b) (λ e. h (rank_same a b e))

@@ -13,7 +13,7 @@ use Rattle.std.proofs.Math.Logic.{∥∥₁_elim}
 use mathlib.Core.HLevel.{Unit-prop, →_prop, ⊥_prop, ×_prop, Σ_prop_path}
 use Rattle.classes.specs.declared.letters.Letter.{Letter}
 use Rattle.classes.specs.declared.letters.Letter.TheVariants.{LowerA}
-use Rattle.classes.specs.Letters.{turned, alike, turned-turned, same_from_alike, apart_from_alike, alike_same, alike-apart}
+use Rattle.classes.specs.Letters.{turned, alike, turned-turned, same_from_alike, apart_from_alike, alike_same, alike_apart}
 
 abbrev pub Apart : Letter → List Letter → Type 0
 Apart a [] = Unit {0}
@@ -51,9 +51,9 @@ push_reduced a (b ∷ w) h = go (alike b (turned a)) refl
     go false e = (apart_from_alike b (turned a) e, h)
 
 -- where nothing cancels, a letter is put in front
-pub push-apart : (a : Letter) (w : List Letter) → Apart a w → push a w ≡ a ∷ w
-push-apart a [] h = refl
-push-apart a (b ∷ w) h = ap (λ k. cond k w (a ∷ (b ∷ w))) (alike-apart b (turned a) h)
+pub push_apart : (a : Letter) (w : List Letter) → Apart a w → push a w ≡ a ∷ w
+push_apart a [] h = refl
+push_apart a (b ∷ w) h = ap (λ k. cond k w (a ∷ (b ∷ w))) (alike_apart b (turned a) h)
 
 -- a letter before its opposite is gone
 pub push_opposite : (a b : Letter) (w : List Letter) → b ≡ turned a → push a (b ∷ w) ≡ w
@@ -68,7 +68,7 @@ push-push a (b ∷ w) h = go (alike b (turned a)) refl
     go false e = push_opposite (turned a) a (b ∷ w) (sym (turned-turned a))
     go true e =
         let p = same_from_alike b (turned a) e in
-        push-apart (turned a) w (subst (λ c. Apart c w) p h.0) ∙ ap (λ c. c ∷ w) (sym p)
+        push_apart (turned a) w (subst (λ c. Apart c w) p h.0) ∙ ap (λ c. c ∷ w) (sym p)
 
 abbrev pub Word : Type 0
 Word = (w : List Letter) × Reduced w
@@ -114,22 +114,22 @@ acts_append [] v y = refl
 acts_append (a ∷ u) v y = ap (act a) (acts_append u v y)
 
 -- letters that cancel nothing are put in front
-pub acts-apart : (w : List Letter) (y : Word) → Reduced (w ++ y.0) → (acts w y).0 ≡ w ++ y.0
-acts-apart [] y h = refl
-acts-apart (a ∷ w) y h = ap (push a) (acts-apart w y h.1) ∙ push-apart a (w ++ y.0) h.0
+pub acts_apart : (w : List Letter) (y : Word) → Reduced (w ++ y.0) → (acts w y).0 ≡ w ++ y.0
+acts_apart [] y h = refl
+acts_apart (a ∷ w) y h = ap (push a) (acts_apart w y h.1) ∙ push_apart a (w ++ y.0) h.0
 
 pub acts-empty : (w : List Letter) → Reduced w → (acts w empty).0 ≡ w
 acts-empty [] h = refl
-acts-empty (a ∷ w) h = ap (push a) (acts-empty w h.1) ∙ push-apart a w h.0
+acts-empty (a ∷ w) h = ap (push a) (acts-empty w h.1) ∙ push_apart a w h.0
 
-apart-push : (a : Letter) (v : List Letter) (c d : Letter) → Apart a (v ++ (c ∷ [])) → Apart a ((v ++ (c ∷ [])) ++ (d ∷ []))
-apart-push a [] c d h = h
-apart-push a (b ∷ v) c d h = h
+apart_push : (a : Letter) (v : List Letter) (c d : Letter) → Apart a (v ++ (c ∷ [])) → Apart a ((v ++ (c ∷ [])) ++ (d ∷ []))
+apart_push a [] c d h = h
+apart_push a (b ∷ v) c d h = h
 
 -- one more letter at the right end
 pub reduced_push : (v : List Letter) (c d : Letter) → Reduced (v ++ (c ∷ [])) → (d ≢ turned c) → Reduced ((v ++ (c ∷ [])) ++ (d ∷ []))
 reduced_push [] c d h n = (n, (tt, tt))
-reduced_push (a ∷ v) c d h n = (apart-push a v c d h.0, reduced_push v c d h.1 n)
+reduced_push (a ∷ v) c d h n = (apart_push a v c d h.0, reduced_push v c d h.1 n)
 
 pub mirror_reduced : (w : List Letter) → Reduced w → Reduced (mirror w)
 mirror_reduced [] h = tt
@@ -137,10 +137,10 @@ mirror_reduced (a ∷ []) h = (tt, tt)
 mirror_reduced (a ∷ (b ∷ w)) h =
     reduced_push (mirror w) (turned b) (turned a) (mirror_reduced (b ∷ w) h.1) (λ e. h.0 (sym (turned-turned b) ∙ sym e))
 
-pub mirror-before : (w : List Letter) (y : Word) → acts (mirror w) (acts w y) ≡ y
-mirror-before [] y = refl
-mirror-before (a ∷ w) y =
-    acts_append (mirror w) (turned a ∷ []) (acts (a ∷ w) y) ∙ ap (acts (mirror w)) (act-turned-act a (acts w y)) ∙ mirror-before w y
+pub mirror_before : (w : List Letter) (y : Word) → acts (mirror w) (acts w y) ≡ y
+mirror_before [] y = refl
+mirror_before (a ∷ w) y =
+    acts_append (mirror w) (turned a ∷ []) (acts (a ∷ w) y) ∙ ap (acts (mirror w)) (act-turned-act a (acts w y)) ∙ mirror_before w y
 
 pub mirror_after : (w : List Letter) (y : Word) → acts w (acts (mirror w) y) ≡ y
 mirror_after [] y = refl

@@ -14,7 +14,7 @@ use Rattle.kinds.specs.Comparisons.{numbers, pairs, lists, keyed}
 use Rattle.kinds.specs.Classes.{ClassKind, product}
 use Rattle.classes.specs.declared.letters.Letter.{Letter}
 use Rattle.classes.specs.Letters.{forwards_of, rank_of, letters}
-use Rattle.classes.specs.Reduced.{Word, empty, acts, mirror, word_same, acts-acts, acts-empty, mirror_reduced, mirror-before, mirror_after, length-mirror}
+use Rattle.classes.specs.Reduced.{Word, empty, acts, mirror, word_same, acts-acts, acts-empty, mirror_reduced, mirror_before, mirror_after, length-mirror}
 
 abbrev pub longest : ℕ
 longest = 32
@@ -36,7 +36,7 @@ pub times-empty : (x : Word) → times x empty ≡ x
 times-empty x = word_same (times x empty) x (acts-empty x.0 x.1)
 
 pub inverse_left : (x : Word) → times (inverse x) x ≡ empty
-inverse_left x = ap (acts (mirror x.0)) (sym (times-empty x)) ∙ mirror-before x.0 empty
+inverse_left x = ap (acts (mirror x.0)) (sym (times-empty x)) ∙ mirror_before x.0 empty
 
 pub inverse_right : (x : Word) → times x (inverse x) ≡ empty
 inverse_right x = ap (acts x.0) (sym (times-empty (inverse x))) ∙ mirror_after x.0 empty

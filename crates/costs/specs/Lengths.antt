@@ -13,8 +13,8 @@ use Rattle.costs.specs.declared.length.Length.{Length}
 use Rattle.costs.specs.Limits.{most}
 
 -- lengths of the same number of centimetres are the same
-pub length-same : (x y : Length) → x.centimetres ≡ y.centimetres → x ≡ y
-length-same x y e = λ i. record { centimetres = e i; top = is_prop→PathP (λ j. e j ≤ most) (λ j. le_prop) x.top y.top i }
+pub length_same : (x y : Length) → x.centimetres ≡ y.centimetres → x ≡ y
+length_same x y e = λ i. record { centimetres = e i; top = is_prop→PathP (λ j. e j ≤ most) (λ j. le_prop) x.top y.top i }
 
 pub min_most : (n : ℕ) → min n most ≤ most
 min_most n = omega arith
@@ -26,16 +26,16 @@ abbrev pub plus : Length → Length → Length
 plus x y = stopped (x.centimetres + y.centimetres)
 
 abbrev pub shortest : Ordered Length
-shortest = keyed (λ x. x.centimetres) length-same numbers
+shortest = keyed (λ x. x.centimetres) length_same numbers
 
 pub plus_assoc : (x y z : Length) → plus (plus x y) z ≡ plus x (plus y z)
-plus_assoc x y z = length-same (plus (plus x y) z) (plus x (plus y z)) (omega arith)
+plus_assoc x y z = length_same (plus (plus x y) z) (plus x (plus y z)) (omega arith)
 
 pub zero_plus : (x : Length) → plus (stopped 0) x ≡ x
-zero_plus x = length-same (plus (stopped 0) x) x (omega (arith, x.top))
+zero_plus x = length_same (plus (stopped 0) x) x (omega (arith, x.top))
 
 pub plus_zero : (x : Length) → plus x (stopped 0) ≡ x
-plus_zero x = length-same (plus x (stopped 0)) x (omega (arith, x.top))
+plus_zero x = length_same (plus x (stopped 0)) x (omega (arith, x.top))
 
 pub plus_left : (x y z : Length) → Under shortest x y → Under shortest (plus x z) (plus y z)
 plus_left x y z h = under_from_le (plus x z).centimetres (plus y z).centimetres (omega (arith, le_from_under x.centimetres y.centimetres h))

@@ -1,10 +1,10 @@
 -- What a map is. Assumes nothing.
---     Site             the points of a map, its limit on lane numbers, the lane that a number names at a point, and the estimate for a point and an aim
---     back n           the number of the lane back: n with its lowest bit flipped
---     LawfulLanes m    the laws of points and lanes
+--     Site               the points of a map, its limit on lane numbers, the lane that a number names at a point, and the estimate for a point and an aim
+--     back n             the number of the lane back: n with its lowest bit flipped
+--     LawfulLanes m      the laws of points and lanes
 --     LawfulEstimates m  the laws of estimates
---     Lawful m         both
---     Next m p n o     o is the first lane number from n on that names a lane at p, or none if no such number does
+--     Lawful m           both
+--     Next m p n o       o is the first lane number from n on that names a lane at p, or none if no such number does
 use Rattle.std.specs.Prelude.{◌≡◌, ℕ, ◌+◌, ◌-◌, ◌*◌, ◌%◌, ◌<◌, ◌≤◌, ◌⊎◌, Some, None, Option}
 use Rattle.kinds.specs.declared.lane.Lane.{Lane}
 use Rattle.kinds.specs.Crossings.{other_way}
@@ -19,7 +19,7 @@ abbrev pub back : ℕ → ℕ
 back n = (n + 1) - 2 * (n % 2)
 
 pub record LawfulLanes (m : Site) : Type 0 where
-  pub few-points : m.points ≤ 4096
+  pub few_points : m.points ≤ 4096
   pub few_lanes : m.limit ≤ 16384
   pub starts : (p n : ℕ) (l : Lane) → m.lane p n ≡ Some l → (p < m.points) × (n < m.limit)
   pub sized : (p n : ℕ) (l : Lane) → m.lane p n ≡ Some l → (1 ≤ l.length) × (l.length ≤ 65535) × (l.risk ≤ 255)

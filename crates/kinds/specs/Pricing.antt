@@ -1,7 +1,7 @@
 -- What pricing a run answers. Assumes nothing.
 --     HeldAlong G ls       every beginning of the lanes has a held class
 --     Stepped .. a n r     r is where a run that has come to a comes to by the lane n, or that there is no such lane, or that its class is not held
---     At .. p ns a         the lane numbers ns name a run from p, with held classes along it, that comes to a
+--     At .. p ns ls a      the lane numbers ns name a run from p along the lanes ls, with held classes along it, that comes to a
 --     Prices .. p ns r     r is the end, class and cost of the run from p along the lane numbers ns;
 --                          or p is no point; or the place of the first number that names no lane; or after how many lanes the class is first not held
 use Rattle.std.specs.Prelude.{◌≡◌, ℕ, ◌<◌, ◌≤◌, List, [], ◌∷◌, ◌++◌, length, take, Some, None, slice_index_or}

@@ -1,7 +1,7 @@
 -- The opening command of a grid before the others: an accepted plan, and a refused one.
 use Rattle.std.proofs.Common.{◌≡◌, ℕ, ◌+◌, ◌*◌, ◌/◌, ◌%◌, ◌<◌, ◌≤◌, List, [], ◌∷◌, ◌++◌, length, get_or, sym, refl, ap, ◌∙◌, subst, inl, inr, arith}
 use Rattle.plans.specs.declared.plan.Grid.{Grid}
-use Rattle.plans.specs.Plans.{Head, grid, spell_head, spell-all, HeadInRange, AllGood, Reads, refused}
+use Rattle.plans.specs.Plans.{Head, grid, spell_head, spell_all, HeadInRange, AllGood, Reads, refused}
 use Rattle.plans.specs.GridPlans.{head_of, Accepts}
 use Rattle.plans.specs.GridSteps.{Ends}
 use Rattle.plans.specs.Steps.{Fails}
@@ -23,10 +23,10 @@ pub accepts_from_ends : (bytes xs : List ℕ) (h : Head) (g : Grid) (m : List �
 accepts_from_ends bytes xs h g m e range same ends =
     let good : AllGood (head_of g) [] ends.commands = subst (λ (k : Head). AllGood k [] ends.commands) (sym same) ends.begins.good in
     let size : HeadInRange (head_of g) = subst (λ (k : Head). HeadInRange k) (sym same) range in
-    let all : bytes ≡ spell_head h ++ (spell-all ends.commands ++ (69 ∷ [])) = e ∙ ap (λ ys. spell_head h ++ ys) ends.begins.spelled in
+    let all : bytes ≡ spell_head h ++ (spell_all ends.commands ++ (69 ∷ [])) = e ∙ ap (λ ys. spell_head h ++ ys) ends.begins.spelled in
     record {
       commands = ends.commands;
-      reads = (subst (λ (k : Head). bytes ≡ spell_head k ++ (spell-all ends.commands ++ (69 ∷ []))) (sym same) all, size, good);
+      reads = (subst (λ (k : Head). bytes ≡ spell_head k ++ (spell_all ends.commands ++ (69 ∷ []))) (sym same) all, size, good);
       tells = tells_from_holds ends.commands g m size good ends.holds;
     }
 

@@ -12,7 +12,7 @@ use Rattle.plans.specs.Plans.{Command, post, block, weigh, point, join, posts}
 use Rattle.plans.specs.Grids.{Terrain, sized, points_of, place, eastward, way, lane_at, grid_site, viewed}
 use Rattle.plans.specs.Meanings.{posts_of, Blocked, is_blocked, risk_after, told_grid}
 use Rattle.plans.specs.Holdings.{nowhere, Placed, GridTells}
-use Rattle.plans.specs.Places.{sized_from_point, inside, place_below, few-points}
+use Rattle.plans.specs.Places.{sized_from_point, inside, place_below, few_points}
 
 pub decides_blocked : (cs : List Command) (c r : ℕ) → Decides (is_blocked cs c r) (Blocked cs c r)
 decides_blocked [] c r = (λ e. absurd (true≢false (sym e)), λ h. absurd h)
@@ -31,8 +31,8 @@ length-posts_of (point s ∷ cs) = length-posts_of cs
 length-posts_of (join a b l k x ∷ cs) = length-posts_of cs
 
 -- the posts that count are those of the commands
-pub take-posts : (cs : List Command) (g : Grid) → Placed cs g → take g.count g.posts ≡ posts_of cs
-take-posts cs g h =
+pub take_posts : (cs : List Command) (g : Grid) → Placed cs g → take g.count g.posts ≡ posts_of cs
+take_posts cs g h =
     let rest = replicate (7 - posts cs) nowhere in
     ap (take g.count) h.placed ∙ take_at (posts_of cs) rest g.count (length-posts_of cs ∙ sym h.counted)
 
@@ -90,11 +90,11 @@ grid_tells cs g m t =
     let blocked : ℕ → ℕ → Bool = (viewed g m).blocked in
     let risk : ℕ → ℕ → ℕ = (viewed g m).risk in
     let within : sized w h s ≡ true → (c r : ℕ) → c < w → r < h → flag c r < length m =
-    λ z c r l k. omega (arith, place_below w h s c r z l k, few-points w h s, t.long) in
+    λ z c r l k. omega (arith, place_below w h s c r z l k, few_points w h s, t.long) in
     let same : sized w h s ≡ true → (c r : ℕ) → c < w → r < h → blocked c r ≡ is_blocked cs c r = λ z c r l k.
     elim (cases_Bool (is_blocked cs c r)) [
       | inl e ↦ flag_tells m (flag c r) 1 (within z c r l k) (t.blocked c r l k ((decides_blocked cs c r).0 e)) ∙ sym e
       | inr e ↦ flag_tells m (flag c r) 0 (within z c r l k) (t.free c r l k (not_from_Decides (is_blocked cs c r) (decides_blocked cs c r) e)) ∙ sym e
     ] in
-    (λ i. grid_site (record { width = w; height = h; spacing = s; posts = take-posts cs g t.posted i; blocked = blocked; risk = risk }))
+    (λ i. grid_site (record { width = w; height = h; spacing = s; posts = take_posts cs g t.posted i; blocked = blocked; risk = risk }))
     ∙ site_same w h s (posts_of cs) blocked (is_blocked cs) risk (risk_after 0 cs) same t.risks

@@ -1,7 +1,7 @@
 -- The opening command, and what follows it: two outcomes of the same bytes are the same.
 use Rattle.std.proofs.Common.{◌≡◌, ℕ, ◌+◌, ◌/◌, ◌%◌, ◌≤◌, cond, eqb, ltb, ◌⊎◌, List, [], ◌∷◌, ◌++◌, length, sym, refl, ap, ◌∙◌, subst, inl, inr, arith}
 use Rattle.std.proofs.lemmas.Bool.{ne_eqb, lt-ltb, le-ltb}
-use Rattle.plans.specs.Plans.{Head, grid, road, Command, spell_head, spell-all, HeadInRange, Outcome, accepted, refused, Reads}
+use Rattle.plans.specs.Plans.{Head, grid, road, Command, spell_head, spell_all, HeadInRange, Outcome, accepted, refused, Reads}
 use Rattle.plans.proofs.Spelling.{same_head, same_after_head}
 use Rattle.plans.proofs.Shapes.{Shape, done, wrong, whole}
 use Rattle.plans.proofs.Beginnings.{Beginning, same_beginning}
@@ -27,7 +27,7 @@ start_other b xs m n =
 -- the outcome where reading stops after these commands
 abbrev outcome : Head → List Command → Shape → Outcome
 outcome h cs done = accepted h cs
-outcome h cs (wrong n i) = refused n (length (spell_head h) + (length (spell-all cs) + i))
+outcome h cs (wrong n i) = refused n (length (spell_head h) + (length (spell_all cs) + i))
 outcome h cs whole = refused 0 0
 
 -- the bytes have no opening command
@@ -49,7 +49,7 @@ same_refused e f = cc
 
 -- every outcome is of one of these two sorts
 sorted : (bytes : List ℕ) (a : Outcome) → Reads bytes a → Shut bytes a ⊎ Open bytes a
-sorted bytes (accepted h cs) (e, r, g) = inr (h, spell-all cs ++ (69 ∷ []), e, inr (r, (cs, done, record { rest = 69 ∷ []; spelled = refl; good = g; stops = refl }, refl)))
+sorted bytes (accepted h cs) (e, r, g) = inr (h, spell_all cs ++ (69 ∷ []), e, inr (r, (cs, done, record { rest = 69 ∷ []; spelled = refl; good = g; stops = refl }, refl)))
 sorted bytes (refused n o) (inl (e, f, g)) = inl (3, 0, ap start e, same_refused f g)
 sorted bytes (refused n o) (inr (inl (b, xs, e, k, l, f, g))) = inl (3, 0, ap start e ∙ start_other b xs k l, same_refused f g)
 sorted bytes (refused n o) (inr (inr (inl (xs, e, l, f, g)))) =
@@ -57,7 +57,7 @@ sorted bytes (refused n o) (inr (inr (inl (xs, e, l, f, g)))) =
     inl (5, 0, ap start e ∙ simp x, same_refused f g)
 sorted bytes (refused n o) (inr (inr (inr (inl (h, xs, e, r, f, g))))) = inr (h, xs, e, inl (r, same_refused f g))
 sorted bytes (refused n o) (inr (inr (inr (inr (h, cs, rest, i, e, r, g, w, f))))) =
-    inr (h, spell-all cs ++ rest, e, inr (r, (cs, wrong n i, record { rest = rest; spelled = refl; good = g; stops = w }, ap (λ k. refused n k) f)))
+    inr (h, spell_all cs ++ rest, e, inr (r, (cs, wrong n i, record { rest = rest; spelled = refl; good = g; stops = w }, ap (λ k. refused n k) f)))
 
 -- one outcome after one opening command
 same_goes : (h : Head) (xs : List ℕ) (a b : Outcome) → Goes h xs a → Goes h xs b → a ≡ b

@@ -13,7 +13,7 @@ accepts_road xs p m ends = record {
   tells = record {
     counted = ends.holds.counted ∙ length_surveys ends.commands;
     joined = ends.holds.joined;
-    few-points = omega (arith, ends.holds.few-points, length_surveys ends.commands);
+    few_points = omega (arith, ends.holds.few_points, length_surveys ends.commands);
     few_lanes = ends.holds.few_lanes;
     laid = ends.holds.laid;
   };

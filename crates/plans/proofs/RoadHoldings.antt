@@ -13,7 +13,7 @@ use Rattle.plans.specs.Surveys.{numbers, survey_place, survey_at}
 use Rattle.plans.specs.Meanings.{surveys_of, index_of}
 use Rattle.plans.specs.RoadPlans.{lane_bytes, lanes_in, padded, image}
 use Rattle.plans.specs.Holdings.{blank}
-use Rattle.plans.specs.RoadSteps.{put, listed, Finds, NoEnds, BothEnds, Enters, Known, Ends_known, Holds}
+use Rattle.plans.specs.RoadSteps.{put, listed, Finds, NoEnds, BothEnds, Enters, Known, EndsKnown, Holds}
 use Rattle.plans.proofs.RoadWrites.{length-padded}
 use Rattle.plans.proofs.RoadSurveys.{surveys_append, joins_append, length-lanes_in, known_from_surveyed, surveyed_from_known, ends_known_more, ends_known_append}
 use Rattle.plans.proofs.RoadImages.{image_none, image_point, image_join, survey_at-listed}
@@ -23,7 +23,7 @@ pub holds_none : (m slots : List ℕ) → m ≡ blank → slots ≡ replicate 10
 holds_none m slots e f = record {
   counted = refl;
   joined = refl;
-  few-points = omega arith;
+  few_points = omega arith;
   few_lanes = omega arith;
   laid = e ∙ image_none;
   known = tt;
@@ -54,7 +54,7 @@ module _ (cs : List Command) (p : Road) (m slots : List ℕ) (h : Holds cs p m s
       let long : length xs ≡ 8192 = length-padded 8192 (lanes_in (surveys_of cs) cs) (omega (arith, length-lanes_in (surveys_of cs) cs, h.few_lanes)) in
       ap (λ n. survey_at m n k) h.counted
       ∙ ap (λ ys. survey_at ys (length (surveys_of cs)) k) h.laid
-      ∙ survey_at-listed xs (surveys_of cs) long h.few-points k
+      ∙ survey_at-listed xs (surveys_of cs) long h.few_points k
 
   pub surveyed_found : (k n : ℕ) → survey_at m p.points k ≡ Some n → Surveyed cs n
   surveyed_found k n e =
@@ -91,13 +91,13 @@ module _ (cs : List Command) (p : Road) (m slots : List ℕ) (h : Holds cs p m s
       record {
         counted = omega (arith, h.counted, count);
         joined = h.joined ∙ sym same;
-        few-points = omega (arith, count);
+        few_points = omega (arith, count);
         few_lanes = omega (arith, same, h.few_lanes);
         laid = wrote
             ∙ ap (λ ys. put ys (survey_place p.points) (four n)) h.laid
             ∙ ap (λ k. put (image cs) (survey_place k) (four n)) h.counted
             ∙ image_point cs n h.known room h.few_lanes;
-        known = subst (λ (ms : List ℕ). Ends_known ms (cs ++ (point n ∷ []))) more
+        known = subst (λ (ms : List ℕ). EndsKnown ms (cs ++ (point n ∷ []))) more
             (ends_known_append (ns ++ (n ∷ [])) cs (point n ∷ []) (ends_known_more ns (n ∷ []) cs h.known) tt);
         many = length_inserts n (length ns) slots to r placed ∙ h.many;
         indexed = subst (λ (ms : List ℕ). Indexed numbers (listed ms) to) more index;
@@ -117,7 +117,7 @@ module _ (cs : List Command) (p : Road) (m slots : List ℕ) (h : Holds cs p m s
       record {
         counted = h.counted ∙ ap length same;
         joined = omega (arith, h.joined, count);
-        few-points = subst (λ (ms : List ℕ). length ms ≤ 512) same h.few-points;
+        few_points = subst (λ (ms : List ℕ). length ms ≤ 512) same h.few_points;
         few_lanes = omega (arith, h.joined, count);
         laid = wrote
             ∙ ap (λ ys. put ys (8 * p.lanes) (lane_bytes i j l k x)) h.laid
@@ -125,7 +125,7 @@ module _ (cs : List Command) (p : Road) (m slots : List ℕ) (h : Holds cs p m s
             ∙ ap (λ a. put (image cs) (8 * joins cs) (lane_bytes a j l k x)) (sym (place_in_found ns slots h.indexed h.covers i s at_first))
             ∙ ap (λ a. put (image cs) (8 * joins cs) (lane_bytes (index_of ns s) a l k x)) (sym (place_in_found ns slots h.indexed h.covers j t at_second))
             ∙ image_join cs s t l k x (omega (arith, h.joined));
-        known = subst (λ (ms : List ℕ). Ends_known ms (cs ++ (join s t l k x ∷ []))) same (ends_known_append ns cs (join s t l k x ∷ []) h.known ends);
+        known = subst (λ (ms : List ℕ). EndsKnown ms (cs ++ (join s t l k x ∷ []))) same (ends_known_append ns cs (join s t l k x ∷ []) h.known ends);
         many = h.many;
         indexed = subst (λ (ms : List ℕ). Indexed numbers (listed ms) slots) same h.indexed;
         covers = subst (λ (ms : List ℕ). Covers slots (length ms)) same h.covers;

@@ -7,7 +7,7 @@ use Rattle.plans.specs.Surveys.{number_at, survey_place, survey_at}
 use Rattle.plans.specs.Meanings.{surveys_of, index_of}
 use Rattle.plans.specs.RoadPlans.{lane_bytes, lanes_in, fours, padded, image}
 use Rattle.plans.specs.Holdings.{blank}
-use Rattle.plans.specs.RoadSteps.{put, listed, Ends_known}
+use Rattle.plans.specs.RoadSteps.{put, listed, EndsKnown}
 use Rattle.plans.proofs.RoadWrites.{put_front, put_back, put-padded, length-padded}
 use Rattle.plans.proofs.RoadSurveys.{surveys_append, length-fours, fours_append, length-lanes_in, lanes_in_append, lanes_in_more}
 
@@ -59,7 +59,7 @@ module _ (xs : List ℕ) (ns : List ℕ) (front : length xs ≡ 8192) (few : len
       ]
 
 -- a point more is four bytes behind the survey numbers
-pub image_point : (cs : List Command) (n : ℕ) → Ends_known (surveys_of cs) cs → length (surveys_of cs) < 512 → joins cs ≤ 1024
+pub image_point : (cs : List Command) (n : ℕ) → EndsKnown (surveys_of cs) cs → length (surveys_of cs) < 512 → joins cs ≤ 1024
     → put (image cs) (survey_place (length (surveys_of cs))) (four n) ≡ image (cs ++ (point n ∷ []))
 image_point cs n known few lanes =
     let ns : List ℕ = surveys_of cs in

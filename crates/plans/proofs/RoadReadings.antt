@@ -40,7 +40,7 @@ module _ (cs : List Command) (p : Road) (m : List ℕ) (tells : Tells cs p m) wh
   length_front = length-padded 8192 (lanes_in (surveys_of cs) cs) (omega (arith, length-lanes_in (surveys_of cs) cs, tells.few_lanes))
 
   few : length (surveys_of cs) ≤ 512
-  few = omega (arith, length_surveys cs, tells.few-points)
+  few = omega (arith, length_surveys cs, tells.few_points)
 
   length_told : length m ≡ 10240
   length_told =

@@ -3,7 +3,7 @@ use Rattle.std.proofs.Common.{◌≡◌, ℕ, ◌+◌, ◌*◌, List, [], ◌∷
 use Rattle.plans.specs.Plans.{Command, post, block, weigh, point, join, four, points, joins, Surveyed}
 use Rattle.plans.specs.Meanings.{surveys_of, index_of}
 use Rattle.plans.specs.RoadPlans.{lane_bytes, lane_of, lanes_in, fours}
-use Rattle.plans.specs.RoadSteps.{Known, Ends_known}
+use Rattle.plans.specs.RoadSteps.{Known, EndsKnown}
 use Rattle.plans.proofs.RoadPlaces.{known_here, known_later, known_cases, known_append, place_in_append}
 
 pub length_surveys : (cs : List Command) → length (surveys_of cs) ≡ points cs
@@ -71,7 +71,7 @@ lanes_in_append ns (c ∷ cs) ds =
     ap (λ xs. lane_of ns c ++ xs) (lanes_in_append ns cs ds) ∙ sym (append_assoc (lane_of ns c) (lanes_in ns cs) (lanes_in ns ds))
 
 -- points that come later leave the lanes as they are
-pub lanes_in_more : (ns ms : List ℕ) (cs : List Command) → Ends_known ns cs → lanes_in (ns ++ ms) cs ≡ lanes_in ns cs
+pub lanes_in_more : (ns ms : List ℕ) (cs : List Command) → EndsKnown ns cs → lanes_in (ns ++ ms) cs ≡ lanes_in ns cs
 lanes_in_more ns ms [] h = refl
 lanes_in_more ns ms (post c r ∷ cs) h = lanes_in_more ns ms cs h
 lanes_in_more ns ms (block c r ∷ cs) h = lanes_in_more ns ms cs h
@@ -82,7 +82,7 @@ lanes_in_more ns ms (join s t l k x ∷ cs) h =
     ∙ ap (λ j. lane_bytes (index_of ns s) j l k x ++ lanes_in (ns ++ ms) cs) (place_in_append ns ms t h.1)
     ∙ ap (λ xs. lane_bytes (index_of ns s) (index_of ns t) l k x ++ xs) (lanes_in_more ns ms cs h.2)
 
-pub ends_known_more : (ns ms : List ℕ) (cs : List Command) → Ends_known ns cs → Ends_known (ns ++ ms) cs
+pub ends_known_more : (ns ms : List ℕ) (cs : List Command) → EndsKnown ns cs → EndsKnown (ns ++ ms) cs
 ends_known_more ns ms [] h = tt
 ends_known_more ns ms (post c r ∷ cs) h = ends_known_more ns ms cs h
 ends_known_more ns ms (block c r ∷ cs) h = ends_known_more ns ms cs h
@@ -90,7 +90,7 @@ ends_known_more ns ms (weigh c r k ∷ cs) h = ends_known_more ns ms cs h
 ends_known_more ns ms (point s ∷ cs) h = ends_known_more ns ms cs h
 ends_known_more ns ms (join s t l k x ∷ cs) h = (known_append ns ms s h.0, known_append ns ms t h.1, ends_known_more ns ms cs h.2)
 
-pub ends_known_append : (ns : List ℕ) (cs ds : List Command) → Ends_known ns cs → Ends_known ns ds → Ends_known ns (cs ++ ds)
+pub ends_known_append : (ns : List ℕ) (cs ds : List Command) → EndsKnown ns cs → EndsKnown ns ds → EndsKnown ns (cs ++ ds)
 ends_known_append ns [] ds h g = g
 ends_known_append ns (post c r ∷ cs) ds h g = ends_known_append ns cs ds h g
 ends_known_append ns (block c r ∷ cs) ds h g = ends_known_append ns cs ds h g

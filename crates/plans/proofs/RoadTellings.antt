@@ -24,10 +24,10 @@ link_laid m a k f =
     λ i. record { first = first i; second = second i; length = length i; risk = f 6 (omega arith) i; crossing = f 7 (omega arith) i }
 
 -- what is past the last lane command does not matter
-leg-same : (n p s : ℕ) (b c : Bool) (k l : Link) → (c ≡ true → k ≡ l) → cond (b && (c && sound n k)) (leg k p s) None ≡ cond (b && (c && sound n l)) (leg l p s) None
-leg-same n p s b true k l f = ap (λ x. cond (b && sound n x) (leg x p s) None) (f refl)
-leg-same n p s true false k l f = refl
-leg-same n p s false false k l f = refl
+leg_same : (n p s : ℕ) (b c : Bool) (k l : Link) → (c ≡ true → k ≡ l) → cond (b && (c && sound n k)) (leg k p s) None ≡ cond (b && (c && sound n l)) (leg l p s) None
+leg_same n p s b true k l f = ap (λ x. cond (b && sound n x) (leg x p s) None) (f refl)
+leg_same n p s true false k l f = refl
+leg_same n p s false false k l f = refl
 
 -- two roadmaps that differ at most past their last lane command have the same map
 pub road_same : (points lanes : ℕ) (f g : ℕ → Link) → ((a : ℕ) → a < lanes → f a ≡ g a)
@@ -35,7 +35,7 @@ pub road_same : (points lanes : ℕ) (f g : ℕ → Link) → ((a : ℕ) → a <
 road_same points lanes f g same = λ i. record {
   points = few points;
   limit = 2048;
-  lane = λ p n. leg-same (few points) p (n % 2) (ltb n 2048) (ltb (n / 2) lanes) (f (n / 2)) (g (n / 2)) (λ e. same (n / 2) (ltb-true (n / 2) lanes e)) i;
+  lane = λ p n. leg_same (few points) p (n % 2) (ltb n 2048) (ltb (n / 2) lanes) (f (n / 2)) (g (n / 2)) (λ e. same (n / 2) (ltb-true (n / 2) lanes e)) i;
   estimate = λ p a. 0;
 }
 

@@ -1,12 +1,7 @@
 -- What the record and the memory of a grid plan hold. Assumes nothing.
 --     head_of g           the opening command that the record is of
---     posts_of cs         the posts of the commands, in order
---     Placed cs g         the record's posts are those of the commands
---     place w c r         the number of a point
+--     post_at c r         the record of a post in the column c and the row r
 --     Inside g c r        the point lies in the grid
---     risk_after k cs c r  the risk of a point after the commands, if it was k before
---     Blocked cs c r      some command blocks the point
---     Tells cs g m        the record and every byte of the memory are what the commands say
 --     Accepts bytes g m   the bytes are an accepted plan, and the record and the memory tell its commands
 --     Opened bytes m r    what reading answers: a record so, or the refusal that the bytes read as
 use Rattle.std.specs.Prelude.{ℕ, ◌<◌, List, Ok, Err, Result}

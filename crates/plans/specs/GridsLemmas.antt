@@ -8,7 +8,7 @@ use Rattle.kinds.specs.declared.lane.Lane.{Lane}
 use Rattle.kinds.specs.Crossings.{other_way}
 use Rattle.kinds.specs.Maps.{back, LawfulLanes, LawfulEstimates}
 use Rattle.plans.specs.Grids.{Terrain, sized, points_of, place, apart, lane_to, lane_at, grid_site}
-use Rattle.plans.specs.Places.{sized_parts, sized_from_point, inside, place_below, few-points}
+use Rattle.plans.specs.Places.{sized_parts, sized_from_point, inside, place_below, few_points}
 use Rattle.plans.specs.Ways.{Goes, goes}
 use Rattle.plans.specs.Options.{passed}
 
@@ -60,7 +60,7 @@ module _ (t : Terrain) where
 
   pub lawful_lanes : LawfulLanes (grid_site t)
   lawful_lanes = record {
-    few-points = few-points t.width t.height t.spacing;
+    few_points = few_points t.width t.height t.spacing;
     few_lanes = omega arith;
     starts = λ p n l e. (on_map p n l e, (goes_on p n l e).few);
     sized = measured;

@@ -24,8 +24,8 @@ sized_parts w h s e = record {
   short = grind (arith, nat_tests);
 }
 
-pub points-sized : (w h s : ℕ) → sized w h s ≡ true → points_of w h s ≡ w * h
-points-sized w h s e = cond-true (sized w h s) (w * h) 0 e
+pub points_sized : (w h s : ℕ) → sized w h s ≡ true → points_of w h s ≡ w * h
+points_sized w h s e = cond-true (sized w h s) (w * h) 0 e
 
 -- a point is on a grid whose sizes are in range
 pub sized_from_point : (w h s p : ℕ) → p < points_of w h s → sized w h s ≡ true
@@ -40,18 +40,18 @@ pub inside : (w h s p : ℕ) → p < points_of w h s → Inside w h (p % w) (p /
 inside w h s p l =
     let e = sized_from_point w h s p l in
     let z = sized_parts w h s e in
-    let in-grid : p < h * w = omega (arith, points-sized w h s e, mul_comm w h) in
+    let in-grid : p < h * w = omega (arith, points_sized w h s e, mul_comm w h) in
     let wide : 0 < w = omega (arith, z.wide) in
     record { narrow = z.narrow; low = z.low; column = mod_below p w wide; row = div_below p w h wide in-grid }
 
 -- a column and a row of the grid make a point of it
 pub place_below : (w h s c r : ℕ) → sized w h s ≡ true → c < w → r < h → place w c r < points_of w h s
-place_below w h s c r e l m = omega (arith, points-sized w h s e, mul-add-lt r w c h m l)
+place_below w h s c r e l m = omega (arith, points_sized w h s e, mul-add-lt r w c h m l)
 
 -- there are at most 4096
-pub few-points : (w h s : ℕ) → points_of w h s ≤ 4096
-few-points w h s =
+pub few_points : (w h s : ℕ) → points_of w h s ≤ 4096
+few_points w h s =
     elim (cases_Bool (sized w h s)) [
-      | inl e ↦ let z = sized_parts w h s e in omega (arith, points-sized w h s e, mul-le w h 64 64 z.narrow z.low)
+      | inl e ↦ let z = sized_parts w h s e in omega (arith, points_sized w h s e, mul-le w h 64 64 z.narrow z.low)
       | inr e ↦ omega (arith, cond-false (sized w h s) (w * h) 0 e)
     ]

@@ -1,6 +1,6 @@
 -- What the bytes of a plan say, by the commands that they spell. Assumes nothing.
 --     Head, Command      the opening command, and those after it, by their operands
---     spell              the bytes of a command; spell-all, of a list of them
+--     spell              the bytes of a command; spell_all, of a list of them
 --     Belongs            the command belongs to the kind of plan
 --     InRange            its operands are in range
 --     Fresh              nothing before gave its column or survey number
@@ -38,9 +38,9 @@ spell (weigh c r k) = 87 ∷ c ∷ r ∷ k ∷ []
 spell (point s) = 80 ∷ four s
 spell (join s t l k x) = 65 ∷ (four s ++ (four t ++ (two l ++ (k ∷ x ∷ []))))
 
-abbrev pub spell-all : List Command → List ℕ
-spell-all [] = []
-spell-all (c ∷ cs) = spell c ++ spell-all cs
+abbrev pub spell_all : List Command → List ℕ
+spell_all [] = []
+spell_all (c ∷ cs) = spell c ++ spell_all cs
 
 -- the command bytes of each kind of plan, with how many operand bytes follow
 abbrev pub Letter : Head → ℕ → ℕ → Type 0
@@ -166,12 +166,12 @@ pub data Outcome : Type 0 where
   refused : ℕ → ℕ → Outcome  -- number, offset
 
 abbrev pub Reads : List ℕ → Outcome → Type 0
-Reads bytes (accepted h cs) = (bytes ≡ spell_head h ++ (spell-all cs ++ (69 ∷ []))) × HeadInRange h × AllGood h [] cs
+Reads bytes (accepted h cs) = (bytes ≡ spell_head h ++ (spell_all cs ++ (69 ∷ []))) × HeadInRange h × AllGood h [] cs
 Reads bytes (refused n o) =
     ((bytes ≡ []) × (n ≡ 3) × (o ≡ 0))
     ⊎ (((b : ℕ) × (xs : List ℕ) × (bytes ≡ b ∷ xs) × (b ≢ 71) × (b ≢ 77) × (n ≡ 3) × (o ≡ 0))
     ⊎ (((xs : List ℕ) × (bytes ≡ 71 ∷ xs) × (length xs < 4) × (n ≡ 5) × (o ≡ 0))
     ⊎ (((h : Head) × (xs : List ℕ) × (bytes ≡ spell_head h ++ xs) × (HeadInRange h → ⊥) × (n ≡ 6) × (o ≡ 0))
     ⊎ ((h : Head) × (cs : List Command) × (rest : List ℕ) × (i : ℕ)
-    × (bytes ≡ spell_head h ++ (spell-all cs ++ rest)) × HeadInRange h × AllGood h [] cs
-    × Fault h cs rest n i × (o ≡ length (spell_head h) + (length (spell-all cs) + i))))))
+    × (bytes ≡ spell_head h ++ (spell_all cs ++ rest)) × HeadInRange h × AllGood h [] cs
+    × Fault h cs rest n i × (o ≡ length (spell_head h) + (length (spell_all cs) + i))))))

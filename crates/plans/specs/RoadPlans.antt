@@ -39,7 +39,7 @@ image cs = padded 8192 (lanes_in (surveys_of cs) cs) ++ padded 2048 (fours (surv
 pub record Tells (cs : List Command) (p : Road) (m : List ℕ) : Type 0 where
   pub counted : p.points ≡ points cs
   pub joined : p.lanes ≡ joins cs
-  pub few-points : points cs ≤ 512
+  pub few_points : points cs ≤ 512
   pub few_lanes : joins cs ≤ 1024
   pub laid : m ≡ image cs
 

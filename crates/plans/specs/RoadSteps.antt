@@ -6,7 +6,7 @@
 --     BothEnds at s t i j    the numbers s and t differ, and the points i and j have them
 --     Enters n k from to     the slots end as `to` once the place k, with the hash n, was to be inserted
 --     Known ns n             n is one of the numbers ns
---     Ends_known ns cs       the ends of all lanes are among the numbers ns
+--     EndsKnown ns cs        the ends of all lanes are among the numbers ns
 --     Holds cs p m slots     the record, the memory and the index are as the commands cs say
 --     Takes cs c p m slots   the command c may come after cs, and the record, the memory and the index are as both say
 --     Closes, Goes           what is left is the end command alone, or begins with one more command, after which `next` is left
@@ -44,21 +44,21 @@ Enters n k from to = (r : Inserted) × Inserts n k from to r
 abbrev pub Known : List ℕ → ℕ → Type 0
 Known ns n = index_of ns n < length ns
 
-abbrev pub Ends_known : List ℕ → List Command → Type 0
-Ends_known ns [] = Unit {0}
-Ends_known ns (post c r ∷ cs) = Ends_known ns cs
-Ends_known ns (block c r ∷ cs) = Ends_known ns cs
-Ends_known ns (weigh c r k ∷ cs) = Ends_known ns cs
-Ends_known ns (point s ∷ cs) = Ends_known ns cs
-Ends_known ns (join s t l k x ∷ cs) = Known ns s × Known ns t × Ends_known ns cs
+abbrev pub EndsKnown : List ℕ → List Command → Type 0
+EndsKnown ns [] = Unit {0}
+EndsKnown ns (post c r ∷ cs) = EndsKnown ns cs
+EndsKnown ns (block c r ∷ cs) = EndsKnown ns cs
+EndsKnown ns (weigh c r k ∷ cs) = EndsKnown ns cs
+EndsKnown ns (point s ∷ cs) = EndsKnown ns cs
+EndsKnown ns (join s t l k x ∷ cs) = Known ns s × Known ns t × EndsKnown ns cs
 
 pub record Holds (cs : List Command) (p : Road) (m slots : List ℕ) : Type 0 where
   pub counted : p.points ≡ length (surveys_of cs)
   pub joined : p.lanes ≡ joins cs
-  pub few-points : length (surveys_of cs) ≤ 512
+  pub few_points : length (surveys_of cs) ≤ 512
   pub few_lanes : joins cs ≤ 1024
   pub laid : m ≡ image cs
-  pub known : Ends_known (surveys_of cs) cs
+  pub known : EndsKnown (surveys_of cs) cs
   pub many : length slots ≡ 1024
   pub indexed : Indexed numbers (listed (surveys_of cs)) slots
   pub covers : Covers slots (length (surveys_of cs))

@@ -16,8 +16,8 @@ use Rattle.plans.specs.RaysLemmas.{other_way-other_way}
 back_half : (n : ℕ) → back n / 2 ≡ n / 2
 back_half n = omega arith
 
-back-odd : (n : ℕ) → n % 2 ≡ 0 → back n % 2 ≡ 1
-back-odd n e = omega arith
+back_odd : (n : ℕ) → n % 2 ≡ 0 → back n % 2 ≡ 1
+back_odd n e = omega arith
 
 back_even : (n : ℕ) → (n % 2 ≢ 0) → back n % 2 ≡ 0
 back_even n e = omega arith
@@ -25,8 +25,8 @@ back_even n e = omega arith
 back_below : (n : ℕ) → n < 2048 → back n < 2048
 back_below n h = omega arith
 
-few-points : (n : ℕ) → few n ≤ 4096
-few-points n =
+few_points : (n : ℕ) → few n ≤ 4096
+few_points n =
     elim (cases_Bool (nat_le n 512)) [
       | inl e ↦ omega (arith, leb-true n 512 e, cond-true (nat_le n 512) n 0 e)
       | inr e ↦ omega (arith, cond-false (nat_le n 512) n 0 e)
@@ -41,11 +41,11 @@ module _ (k : Link) where
   pub sound_parts : (n : ℕ) → sound n k ≡ true → Sound n
   sound_parts n e = record { from = grind (arith, nat_tests); to = grind (arith, nat_tests); long = grind (arith, nat_tests) }
 
-  leg-onward : leg k k.first 0 ≡ Some (onward k)
-  leg-onward = cond-true (k.first == k.first) (Some (onward k)) None (eq-eqb k.first k.first refl)
+  leg_onward : leg k k.first 0 ≡ Some (onward k)
+  leg_onward = cond-true (k.first == k.first) (Some (onward k)) None (eq-eqb k.first k.first refl)
 
-  leg-backward : leg k k.second 1 ≡ Some (backward k)
-  leg-backward = cond-true (k.second == k.second) (Some (backward k)) None (eq-eqb k.second k.second refl)
+  leg_backward : leg k k.second 1 ≡ Some (backward k)
+  leg_backward = cond-true (k.second == k.second) (Some (backward k)) None (eq-eqb k.second k.second refl)
 
   -- a lane along a link goes one way or the other
   abbrev Ways : ℕ → ℕ → Lane → Type 0
@@ -78,8 +78,8 @@ module _ (t : Net) where
   link_sound n e =
       sound_parts (t.link (n / 2)) (few t.points) (and_parts (nat_lt (n / 2) t.lanes) (sound (few t.points) (t.link (n / 2))) (parts n e).1).1
 
-  stands-back : (n : ℕ) → stands t n ≡ true → stands t (back n) ≡ true
-  stands-back n e =
+  stands_back : (n : ℕ) → stands t n ≡ true → stands t (back n) ≡ true
+  stands_back n e =
       let h = parts n e in
       and_from (nat_lt (back n) 2048) (holds (back n / 2)) (lt-ltb (back n) 2048 (back_below n h.0)) (subst (λ a. holds a ≡ true) (sym (back_half n)) h.1)
 
@@ -92,7 +92,7 @@ module _ (t : Net) where
   -- the lane with the number of the lane back
   lane_back : (p n s : ℕ) → stands t n ≡ true → back n % 2 ≡ s → (road_site t).lane p (back n) ≡ leg (t.link (n / 2)) p s
   lane_back p n s e f =
-      cond-true (stands t (back n)) (leg (t.link (back n / 2)) p (back n % 2)) None (stands-back n e)
+      cond-true (stands t (back n)) (leg (t.link (back n / 2)) p (back n % 2)) None (stands_back n e)
       ∙ (ap (λ a. leg (t.link a) p (back n % 2)) (back_half n) ∙ ap (leg (t.link (n / 2)) p) f)
 
   abbrev Returns : ℕ → ℕ → Lane → Type 0
@@ -105,12 +105,12 @@ module _ (t : Net) where
       elim h.1 [
         | inl w ↦
             subst (Returns p n) (sym w.2)
-            (lane_back k.second n 1 h.0 (back-odd n w.0)
-            ∙ (leg-backward k ∙ ap (λ q. Some (record { to = q; length = min k.length 65535; risk = min k.risk 255; crossing = other_way (crossing_of k.crossing) })) (sym w.1)))
+            (lane_back k.second n 1 h.0 (back_odd n w.0)
+            ∙ (leg_backward k ∙ ap (λ q. Some (record { to = q; length = min k.length 65535; risk = min k.risk 255; crossing = other_way (crossing_of k.crossing) })) (sym w.1)))
         | inr w ↦
             subst (Returns p n) (sym w.2)
             (lane_back k.first n 0 h.0 (back_even n w.0)
-            ∙ (leg-onward k
+            ∙ (leg_onward k
             ∙ (λ i. Some (record { to = sym w.1 i; length = min k.length 65535; risk = min k.risk 255; crossing = sym (other_way-other_way (crossing_of k.crossing)) i }))))
       ]
 
@@ -131,7 +131,7 @@ module _ (t : Net) where
       elim h.1 [ inl w ↦ subst Measured (sym w.2) (omega arith, omega arith, omega arith) | inr w ↦ subst Measured (sym w.2) (omega arith, omega arith, omega arith) ]
 
   pub lawful_lanes : LawfulLanes (road_site t)
-  lawful_lanes = record { few-points = few-points t.points; few_lanes = omega arith; starts = starts; sized = measured; returns = returns }
+  lawful_lanes = record { few_points = few_points t.points; few_lanes = omega arith; starts = starts; sized = measured; returns = returns }
 
   pub lawful_estimates : LawfulEstimates (road_site t)
   lawful_estimates = record { near = λ p a. omega arith; at_aim = λ a. refl; nowhere = λ p a h. refl; consistent = λ p n a l e. omega arith }

@@ -33,7 +33,7 @@ pub record Goes (t : Terrain) (c r n : ℕ) (l : Lane) : Type 0 where
   pub returns : lane_at t column row (back n) ≡ Some (lane_to t column row c r (other_way crossing))
   pub near : (a b : ℕ) → apart c a + apart r b ≤ 1 + (apart column a + apart row b)
 
-module _ (t : Terrain) (c r : ℕ) (l : Lane) (in-column : c < t.width) (in_row : r < t.height) where
+module _ (t : Terrain) (c r : ℕ) (l : Lane) (in_column : c < t.width) (in_row : r < t.height) where
   east : lane_at t c r 0 ≡ Some l → Goes t c r 0 l
   east e =
       let x = eastward 1 t.posts c r in
@@ -68,7 +68,7 @@ module _ (t : Terrain) (c r : ℕ) (l : Lane) (in-column : c < t.width) (in_row 
         is = s.3;
         returns = subst (λ k. way t (nat_lt k t.width) (c - 1) r k r y ≡ Some (lane_to t (c - 1) r c r (other_way (other_way y)))) same
             (subst (λ z. way t (nat_lt c t.width) (c - 1) r c r y ≡ Some (lane_to t (c - 1) r c r z)) (sym (other_way-other_way y))
-            (some_cond (nat_lt c t.width) (t.blocked (c - 1) r) (t.blocked c r) (lane_to t (c - 1) r c r y) (lt-ltb c t.width in-column) s.2 s.1));
+            (some_cond (nat_lt c t.width) (t.blocked (c - 1) r) (t.blocked c r) (lane_to t (c - 1) r c r y) (lt-ltb c t.width in_column) s.2 s.1));
         near = λ a b. omega arith;
       }
 
@@ -80,7 +80,7 @@ module _ (t : Terrain) (c r : ℕ) (l : Lane) (in-column : c < t.width) (in_row 
         column = c;
         row = r + 1;
         crossing = cross.None;
-        east_of = in-column;
+        east_of = in_column;
         north_of = ltb-true (r + 1) t.height s.0;
         few = omega arith;
         is = s.3;
@@ -98,7 +98,7 @@ module _ (t : Terrain) (c r : ℕ) (l : Lane) (in-column : c < t.width) (in_row 
         column = c;
         row = r - 1;
         crossing = cross.None;
-        east_of = in-column;
+        east_of = in_column;
         north_of = omega arith;
         few = omega arith;
         is = s.3;

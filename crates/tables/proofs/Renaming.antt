@@ -11,9 +11,9 @@ Alike at from at' to i =
     ((get_or from i 0 ≡ 0) × (get_or to i 0 ≡ 0)) ⊎ ((k : ℕ) × (k' : ℕ) × Names from i k × Names to i k' × (at k ≡ at' k'))
 
 module _ {M : Type 0} (at at' : ℕ → Option M) (from to : List ℕ) (i : ℕ) where
-  pub alike-back : Alike at from at' to i → Alike at' to at from i
-  alike-back (inl (z, z')) = inl (z', z)
-  alike-back (inr (k, k', n, n', e)) = inr (k', k, n', n, sym e)
+  pub alike_back : Alike at from at' to i → Alike at' to at from i
+  alike_back (inl (z, z')) = inl (z', z)
+  alike_back (inr (k, k', n, n', e)) = inr (k', k, n', n, sym e)
 
   pub alike_has : (m : M) → Alike at from at' to i → Has at from i m → Has at' to i m
   alike_has m (inl (z, z')) (q, names, has) = let e : q + 1 ≡ 0 = sym names ∙ z in absurd (omega arith)
@@ -39,7 +39,7 @@ module _ (K : KeyKind) (at at' : ℕ → Option K.Meaning) (from to : List ℕ) 
   }
     where
       back : (i : ℕ) → Alike at' to at from i
-      back i = alike-back at at' from to i (alike i)
+      back i = alike_back at at' from to i (alike i)
 
       had : (i : ℕ) (m : K.Meaning) → Has at' to i m → Has at from i m
       had i m = alike_has at' at to from i m (back i)

@@ -4,7 +4,7 @@ use Rattle.kinds.specs.declared.crossing.Crossing.{Crossing}
 use Rattle.kinds.specs.declared.crossing.Crossing.TheVariants as cross
 use Rattle.kinds.specs.declared.lane.Lane.{Lane}
 use Rattle.kinds.specs.Runs.{cost_of}
-use Rattle.costs.specs.Lengths.{lengths, stopped, length-same}
+use Rattle.costs.specs.Lengths.{lengths, stopped, length_same}
 use Rattle.worked.proofs.worked_examples.Goals as goal
 
 -- a metre without risk
@@ -31,6 +31,6 @@ returns c = record {
   too_long = λ h. omega arith;
   back = refl;
   east = (refl, (lit≤ tt, lit≤ tt, lit≤ tt, lit≤ tt, lit≤ tt, lit≤ tt), ((tt, (lit≤ tt, lit≤ tt), (λ x. x), tt, lit< tt), ((tt, (lit< tt, lit< tt), tt, tt, tt), tt)));
-  north_about = (north_lanes, (refl, (refl, (refl, (refl, (lit< tt, refl))))), refl, length-same (cost_of lengths north_lanes) (stopped 400) refl);
-  south_about = (south_lanes, (refl, (refl, (refl, (refl, (lit< tt, refl))))), refl, length-same (cost_of lengths south_lanes) (stopped 400) refl);
+  north_about = (north_lanes, (refl, (refl, (refl, (refl, (lit< tt, refl))))), refl, length_same (cost_of lengths north_lanes) (stopped 400) refl);
+  south_about = (south_lanes, (refl, (refl, (refl, (refl, (lit< tt, refl))))), refl, length_same (cost_of lengths south_lanes) (stopped 400) refl);
 }

@@ -1,5 +1,5 @@
 use Rattle.std.proofs.Common.{◌≡◌, ℕ, length, replicate, ap, ◌∙◌, arith}
-use Rattle.charting.proofs.Queues.{all-places}
+use Rattle.charting.proofs.Queues.{all_places}
 use Rattle.charting.proofs.search.search.Goals as goal
 
 pub begin-found-requires : goal.begin-found-requires
@@ -9,7 +9,7 @@ begin-found-requires g c =
       here = c.requires.here;
       sized = record {
         few = few;
-        queued = omega (arith, all-places c.empty-waiting.result, c.empty-waiting.ensures.len);
+        queued = omega (arith, all_places c.empty-waiting.result, c.empty-waiting.ensures.len);
         slotted = omega (arith, c.clear.auto.slots);
       };
       some = some;

@@ -3,7 +3,7 @@ use Rattle.classes.specs.declared.letters.Letter.TheVariants.{LowerA}
 use Rattle.classes.specs.Letters.{turned}
 use Rattle.classes.specs.Reduced.{Reduced, known, word_same}
 use Rattle.classes.specs.Words.{inverse}
-use Rattle.classes.proofs.Inverses.{mirror_none, mirror_more, mirror-all}
+use Rattle.classes.proofs.Inverses.{mirror_none, mirror_more, mirror_all}
 use Rattle.classes.proofs.words.WordClass.inverse.Goals as goal
 
 pub loop-place-init : goal.loop-place-init
@@ -21,10 +21,10 @@ loop-place-preserved c =
 pub invariant_of-result : goal.invariant_of-result
 invariant_of-result c =
     let s = c.args.self.now in
-    let e = mirror-all s.letters c.loop-place.letters s.len c.loop-place.place (omega arith) c.loop-place.invariant.1 in
+    let e = mirror_all s.letters c.loop-place.letters s.len c.loop-place.place (omega arith) c.loop-place.invariant.1 in
     record { room = c.loop-place.invariant.0; short = s.short; reduced = ∣ subst Reduced (sym e) (inverse (known (take s.len s.letters) s.reduced)).1 ∣₁ }
 
 pub returns : goal.returns
 returns c =
     let s = c.args.self.now in
-    word_same _ _ (mirror-all s.letters c.loop-place.letters s.len c.loop-place.place (omega arith) c.loop-place.invariant.1)
+    word_same _ _ (mirror_all s.letters c.loop-place.letters s.len c.loop-place.place (omega arith) c.loop-place.invariant.1)
