@@ -2,7 +2,7 @@
 --     stopped n        n centimetres, or the largest length where n is above it
 --     lengths          the cost kind: the sum stops at the largest length, a lane costs its length, the limit of n is n
 use Rattle.std.specs.Prelude.{◌≡◌, ℕ, ◌+◌, ◌≤◌, min, refl}
-use Rattle.std.proofs.Common.{sym, ap, ◌∙◌, arith}
+use Rattle.std.proofs.Common.{arith}
 use mathlib.Core.HLevel.{is_prop→PathP}
 use Rattle.std.proofs.Math.Bridge.{le_prop}
 use Rattle.kinds.specs.Orders.{Ordered, Under}

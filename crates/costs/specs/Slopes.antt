@@ -1,7 +1,7 @@
 -- The cost kind of slopes. Assumes nothing.
 --     steep n          the slope n
 --     slopes           the cost kind: the sum is the larger slope, a lane costs its risk, the limit of n is the smaller of n and the steepest
-use Rattle.std.specs.Prelude.{◌≡◌, ℕ, ◌≤◌, min, max, refl}
+use Rattle.std.specs.Prelude.{◌≡◌, ℕ, min, max, refl}
 use Rattle.std.proofs.Common.{arith}
 use Rattle.kinds.specs.Orders.{Ordered, Under}
 use Rattle.kinds.specs.Comparisons.{numbers, keyed}
