@@ -26,8 +26,8 @@ JOINED = set(
     " get_or-blank get_or-fours get_or-image get_or-lanes_in get_or-padded get_or-set_risk get_or-vacant get_or-written_other"
     " number_at-image other_way-other_way survey_at-listed spell_all-push".split()
 )
-# names that would fall together with others
-APART = {"lane-at": "grid_site-lane_at", "pair-at": "pair_at-stands", "two_at": "two_at-bytes", "Ends-known": "EndsKnown"}
+# names that would fall together with others, and some that the rules below do not reach
+APART = {"in-column": "in_column", "lane-at": "grid_site-lane_at", "pair-at": "pair_at-stands", "two_at": "two_at-bytes", "Ends-known": "EndsKnown"}
 WORDS = {"getD": "get_or", "isEq": "is_eq"}
 
 
@@ -82,7 +82,7 @@ def respelled(name):
 
 
 def table(top):
-    names = defined(top)
+    names = defined(top) | set(APART)
     turned = {n: respelled(n) for n in names}
     turned = {n: new for n, new in turned.items() if new != n}
     taken = {}
