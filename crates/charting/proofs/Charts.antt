@@ -12,7 +12,7 @@ use Rattle.charts.specs.Charts.{Finished}
 use Rattle.steps.specs.declared.asked.Asked.{Asked}
 use Rattle.steps.specs.declared.open.Open.{Open}
 use Rattle.charting.specs.Charts.{Fits, Pointless, Judged, VacantFrom, VacantQueue, VacantSlots, or_too_large, kept_by, head_of, TooLarge, Answers, Charts}
-use Rattle.charting.specs.Searches.{Refused, Complete}
+use Rattle.charting.specs.Searches.{Complete}
 
 never_none : {X : Type 0} (x : X) → Some x ≡ None → ⊥
 never_none x e = let z : ◌≡◌ {A = ℕ} 0 1 = cc in omega arith
@@ -49,7 +49,7 @@ module _ {C K : Type 0} (m : Site) (b : Classes C) (c : Costs K) (q : Asked) whe
       )
 
   -- what the search comes to, over places that end as xs
-  pub search_answers : (n : ℕ) (xs : List (Pair C K)) (o : Option ℕ) → (Pointless m q → ⊥) → q.cable ≤ 1000000 → length xs ≡ n → MatchOption o (Refused m b c q n) (Complete m b c q xs) → Answers m b c q n xs (or_too_large o)
+  pub search_answers : (n : ℕ) (xs : List (Pair C K)) (o : Option ℕ) → (Pointless m q → ⊥) → q.cable ≤ 1000000 → length xs ≡ n → MatchOption o (TooLarge m b c q n) (Complete m b c q xs) → Answers m b c q n xs (or_too_large o)
   search_answers n xs None np le long h = Answers.too_large np le h
   search_answers n xs (Some k) np le long h = Answers.charted np le (λ t. h.exact (subst (TooLarge m b c q) (sym long) t)) (h.room, h.finished)
 

@@ -30,7 +30,8 @@ use Rattle.charting.specs.Places.{Progress}
 use Rattle.charting.specs.Waits.{Serves, Waits}
 use Rattle.charting.specs.Steps.{Swaps, Adds, Lowers}
 use Rattle.steps.specs.Leads.{Leads}
-use Rattle.charting.specs.Searches.{Sized, Searching, Follows, Refused, Complete}
+use Rattle.charting.specs.Charts.{TooLarge}
+use Rattle.charting.specs.Searches.{Sized, Searching, Follows, Complete}
 use Rattle.kinds.proofs.Orders.{under_of_not_less}
 use Rattle.charting.proofs.Elements.{taken_out, nil_from_length}
 use Rattle.charting.proofs.Laters.{no_later_from_at_most, at_most_from_cheaper}
@@ -125,8 +126,8 @@ module _ {C K : Type 0} (m : Site) (lanes : LawfulLanes m) (estimates : LawfulEs
 
     -- what meeting the pair answers, and leaves
     pub followed : (ys : List (Pair C K)) (queue' : Queue (Open K)) (slots' : List ℕ) (r : Option ℕ) →
-        MatchOption r (Refused m b c q (length xs)) (λ n'. (s i : ℕ) → Follows m b c q xs queue slots s i n v → Searching m b c q ys queue' slots' s (s + 1) (i + 1) n') →
-        MatchOption r (Refused m b c q (length xs)) (Searching m b c q ys queue' slots' s (s + 1) (i + 1))
+        MatchOption r (TooLarge m b c q (length xs)) (λ n'. (s i : ℕ) → Follows m b c q xs queue slots s i n v → Searching m b c q ys queue' slots' s (s + 1) (i + 1) n') →
+        MatchOption r (TooLarge m b c q (length xs)) (Searching m b c q ys queue' slots' s (s + 1) (i + 1))
     followed ys queue' slots' None h = h
     followed ys queue' slots' (Some n') h = h s i f
 
@@ -141,7 +142,7 @@ module _ {C K : Type 0} (m : Site) (lanes : LawfulLanes m) (estimates : LawfulEs
         pair j = ((e ∙ sym f.comes.point) j, (e' ∙ sym f.comes.class) j)
 
     -- the pair is new, and no place is left
-    pub met_crowded : Absent (pair_at b (take n xs)) slots (pair_of b v) → length xs ≤ n → Refused m b c q (length xs)
+    pub met_crowded : Absent (pair_at b (take n xs)) slots (pair_of b v) → length xs ≤ n → TooLarge m b c q (length xs)
     met_crowded absent full =
         inl (progress_crowded m law b.kind b.element c.costs q.reel q.aim q.cable xs s i n f.searching.progress f.from f.stands f.lane f.comes.lane f.comes.within
         (omega (arith, f.searching.progress.room)) (met_nowhere absent))
@@ -262,7 +263,7 @@ module _ {C K : Type 0} (m : Site) (lanes : LawfulLanes m) (estimates : LawfulEs
             searching_on xs queue slots s (s + 1) i n s (i + 1) h
             (progress_too_far m law b.kind b.element c.costs q.reel q.aim q.cable xs s i n h.progress x at l e (λ w. far (subst (Within m c.costs q.aim q.cable l.to) (sym is) w)))
 
-        pub searching_unheld : Within m c.costs q.aim q.cable l.to cost → (b.kind.Held (b.kind.mul (b.element x.class) (crossed b.kind l.crossing)) → ⊥) → Refused m b c q (length xs)
+        pub searching_unheld : Within m c.costs q.aim q.cable l.to cost → (b.kind.Held (b.kind.mul (b.element x.class) (crossed b.kind l.crossing)) → ⊥) → TooLarge m b c q (length xs)
         searching_unheld w not =
             inr (progress_unheld m law b.kind b.element c.costs q.reel q.aim q.cable xs s i n h.progress x at l e (subst (Within m c.costs q.aim q.cable l.to) is w) not)
 

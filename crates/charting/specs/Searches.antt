@@ -7,8 +7,7 @@
 --     Follows .. s i n v           v comes from the pair at the place s by the lane number i, whose lanes below i are followed
 --     Meeting .. n v               v comes from some pair in that way
 --     Complete .. xs n             the first n of xs are a finished chart, and nothing was to be refused
---     Refused ..                   the reach has more pairs than there are places, or a class that is not held
-use Rattle.std.specs.Prelude.{◌≡◌, ℕ, ◌+◌, ◌*◌, ◌≤◌, ◌⊎◌, List, length, take, Some}
+use Rattle.std.specs.Prelude.{◌≡◌, ℕ, ◌+◌, ◌*◌, ◌≤◌, List, length, take, Some}
 use Rattle.kinds.specs.declared.lane.Lane.{Lane}
 use Rattle.kinds.specs.Maps.{Site}
 use Rattle.kinds.specs.Classes.{crossed}
@@ -19,7 +18,7 @@ use Rattle.tables.specs.declared.queue.Queue.{Queue}
 use Rattle.tables.specs.Queues.{places, waiting, Kept}
 use Rattle.tables.specs.Indexes.{Indexed, Covers}
 use Rattle.charts.specs.declared.chart.Pair.{Pair}
-use Rattle.charts.specs.Charts.{Stands, Finished, Crowded, Unheld}
+use Rattle.charts.specs.Charts.{Stands, Finished}
 use Rattle.steps.specs.declared.asked.Asked.{Asked}
 use Rattle.steps.specs.declared.open.Open.{Open}
 use Rattle.charting.specs.Searching.{onward}
@@ -27,6 +26,7 @@ use Rattle.charting.specs.Places.{Progress}
 use Rattle.steps.specs.Opens.{by_bound}
 use Rattle.steps.specs.Keys.{pair_keys, pair_at}
 use Rattle.charting.specs.Waits.{Waits}
+use Rattle.charting.specs.Charts.{TooLarge}
 
 pub record Sized {C K : Type 0} (xs : List (Pair C K)) (queue : Queue (Open K)) (slots : List ℕ) : Type 0 where
   pub few : length xs ≤ 4096
@@ -60,10 +60,7 @@ module _ {C K : Type 0} (m : Site) (b : Classes C) (c : Costs K) (q : Asked) whe
   abbrev pub Meeting : List (Pair C K) → Queue (Open K) → List ℕ → ℕ → Pair C K → Type 0
   Meeting xs queue slots n v = (s : ℕ) × (i : ℕ) × Follows xs queue slots s i n v
 
-  abbrev pub Refused : ℕ → Type 0
-  Refused n = Crowded {C = C} m b.kind b.element c.costs q.reel q.aim q.cable n ⊎ Unheld {C = C} m b.kind b.element c.costs q.reel q.aim q.cable
-
   pub record Complete (xs : List (Pair C K)) (n : ℕ) : Type 0 where
     pub room : n ≤ length xs
     pub finished : Finished m b.kind b.element c.costs q.reel q.aim q.cable (take n xs)
-    pub exact : Refused (length xs) → ⊥
+    pub exact : TooLarge {C = C} m b c q (length xs) → ⊥

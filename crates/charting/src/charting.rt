@@ -60,6 +60,7 @@ fn answer<M: Map, C: Class, K: Cost>(
 
 // Charts the reach: the number of its pairs, which stand in the first places, each at the cost of its cheapest run and
 // linked to the pair before it on one such run.
+#[tactic(auto, using(crate::proofs::Charts::charts_so))]
 pub fn chart_reach<M: Map, C: Class, K: Cost>(
     map: &M,
     asked: Asked,

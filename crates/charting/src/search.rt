@@ -1,8 +1,8 @@
 // The search, pair by pair: the open pair that waits first is settled, and its lanes are followed.
 ghost use Rattle.std.specs.Prelude.{◌≡◌, ℕ, ◌+◌, ◌<◌, length, replicate, MatchBool, MatchOption};
 ghost use Rattle.tables.specs.Queues.{waiting};
-ghost use Rattle.charting.specs.Charts.{Fits};
-ghost use Rattle.charting.specs.Searches.{Sized, Searching, Refused, Complete, Follows, Meeting};
+ghost use Rattle.charting.specs.Charts.{Fits, TooLarge};
+ghost use Rattle.charting.specs.Searches.{Sized, Searching, Complete, Follows, Meeting};
 
 use crate::memory::{add, exchange, look_up, lower};
 use charts::chart::Pair;
@@ -48,7 +48,7 @@ fn follow<M: Map, C: Class, K: Cost>(
     found: u16,
 ) -> Option<u16>
     requires { Searching (M.Map.site task.now.map.now) C.Class K.Cost task.now.asked places.old queue.old slots.old hand (hand + 1) number found }
-    ensures { MatchOption result (Refused (M.Map.site task.now.map.now) C.Class K.Cost task.now.asked (length places.old)) (Searching (M.Map.site task.now.map.now) C.Class K.Cost task.now.asked places.new queue.new slots.new hand (hand + 1) (number + 1)) }
+    ensures { MatchOption result (TooLarge (M.Map.site task.now.map.now) C.Class K.Cost task.now.asked (length places.old)) (Searching (M.Map.site task.now.map.now) C.Class K.Cost task.now.asked places.new queue.new slots.new hand (hand + 1) (number + 1)) }
 {
     let from = places[hand as usize];
     let Some(lane) = task.map.lane(from.point, number) else {
@@ -74,7 +74,7 @@ fn meet<M: Map, C: Class, K: Cost>(
     pair: Pair<C, K>,
 ) -> Option<u16>
     requires { Meeting (M.Map.site task.now.map.now) C.Class K.Cost task.now.asked places.old queue.old slots.old found pair }
-    ensures { MatchOption result (Refused (M.Map.site task.now.map.now) C.Class K.Cost task.now.asked (length places.old)) (λ n. (s i : ℕ) → Follows (M.Map.site task.now.map.now) C.Class K.Cost task.now.asked places.old queue.old slots.old s i found pair → Searching (M.Map.site task.now.map.now) C.Class K.Cost task.now.asked places.new queue.new slots.new s (s + 1) (i + 1) n) }
+    ensures { MatchOption result (TooLarge (M.Map.site task.now.map.now) C.Class K.Cost task.now.asked (length places.old)) (λ n. (s i : ℕ) → Follows (M.Map.site task.now.map.now) C.Class K.Cost task.now.asked places.old queue.old slots.old s i found pair → Searching (M.Map.site task.now.map.now) C.Class K.Cost task.now.asked places.new queue.new slots.new s (s + 1) (i + 1) n) }
 {
     let bound = task.bound_at(pair.point, pair.cost);
     match look_up(places, slots, found, pair.point, pair.class) {
@@ -103,7 +103,7 @@ fn expand<M: Map, C: Class, K: Cost>(
     found: u16,
 ) -> Option<u16>
     requires { Searching (M.Map.site task.now.map.now) C.Class K.Cost task.now.asked places.old queue.old slots.old hand (hand + 1) 0 found }
-    ensures { MatchOption result (Refused (M.Map.site task.now.map.now) C.Class K.Cost task.now.asked (length places.old)) (Searching (M.Map.site task.now.map.now) C.Class K.Cost task.now.asked places.new queue.new slots.new (hand + 1) (hand + 1) 0) }
+    ensures { MatchOption result (TooLarge (M.Map.site task.now.map.now) C.Class K.Cost task.now.asked (length places.old)) (Searching (M.Map.site task.now.map.now) C.Class K.Cost task.now.asked places.new queue.new slots.new (hand + 1) (hand + 1) 0) }
 {
     let mut found = found;
     let mut from = 0;
@@ -126,7 +126,7 @@ fn finish<M: Map, C: Class, K: Cost>(
     found: u16,
 ) -> Option<u16>
     requires { Searching (M.Map.site task.now.map.now) C.Class K.Cost task.now.asked places.old queue.old slots.old 0 0 0 found }
-    ensures { MatchOption result (Refused (M.Map.site task.now.map.now) C.Class K.Cost task.now.asked (length places.old)) (Complete (M.Map.site task.now.map.now) C.Class K.Cost task.now.asked places.new) }
+    ensures { MatchOption result (TooLarge (M.Map.site task.now.map.now) C.Class K.Cost task.now.asked (length places.old)) (Complete (M.Map.site task.now.map.now) C.Class K.Cost task.now.asked places.new) }
 {
     let mut found = found;
     let mut settled = 0;
@@ -179,7 +179,7 @@ pub(crate) fn search<M: Map, C: Class, K: Cost>(
 ) -> Option<u16>
     requires here { task.now.asked.reel < (M.Map.site task.now.map.now).points }
     requires fits { Fits places.old queue.old slots.old }
-    ensures { MatchOption result (Refused (M.Map.site task.now.map.now) C.Class K.Cost task.now.asked (length places.old)) (Complete (M.Map.site task.now.map.now) C.Class K.Cost task.now.asked places.new) }
+    ensures { MatchOption result (TooLarge (M.Map.site task.now.map.now) C.Class K.Cost task.now.asked (length places.old)) (Complete (M.Map.site task.now.map.now) C.Class K.Cost task.now.asked places.new) }
 {
     clear(slots);
     let mut waiting = Queue::empty(queue);

@@ -257,10 +257,3 @@ lists_truly {C = C} {K = K} b c o xs p from to r lists m h cable n law is fin ok
         lists_finished m law b c h.reel h.aim cable (take h.pairs xs) p fin (subst (λ (j : Chart). covering j.aim p ≡ true) same covers) from to n
         (subst (λ (j : Chart). ListsIn b c (take j.pairs xs) p from to (Ok n)) same (subst (ListsIn b c (take k.pairs xs) p from to) ok listed))
     go (Err e) asked (f, g) = let z : ◌≡◌ {A = ℕ} 0 1 = cc in absurd (omega arith)
-
--- a chart that may be asked answers from its counted places
-pub asked_lists : {C K : Type 0} (b : Classes C) (c : Costs K) (o : Option Chart) (xs : List (Pair C K)) (p : ℕ) (from to : List (Priced C K)) (r : Result ℕ Refusal) (h : Chart) (n : ℕ) →
-    asked_at o (length xs) p ≡ Ok h → n ≡ h.pairs → ListsIn b c (take n xs) p from to r → ListsAt b c o xs p from to r
-asked_lists b c o xs p from to r h n asked counted lists =
-    subst (λ (s : Result Chart Refusal). MatchResult s (λ k. ListsIn b c (take k.pairs xs) p from to r) (λ e. (r ≡ Err e) × (to ≡ from))) (sym asked)
-    (subst (λ (j : ℕ). ListsIn b c (take j xs) p from to r) counted lists)

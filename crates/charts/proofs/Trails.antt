@@ -1,18 +1,15 @@
 -- Runs along links: from one place there is one at most, and it is no longer than there are places.
-use Rattle.std.proofs.Common.{◌≡◌, ℕ, zero, suc, ◌+◌, ◌-◌, ◌<◌, ◌≤◌, true, false, ltb, List, [], ◌∷◌, ◌++◌, reverse, length, get_or, take, drop, set, Some, None, Ok, Err, Option, Result, sym, refl, ap, ◌∙◌, subst, inl, inr, arith, MatchResult}
-use Rattle.kinds.specs.declared.refusal.Refusal.{Refusal}
+use Rattle.std.proofs.Common.{◌≡◌, ℕ, zero, suc, ◌+◌, ◌-◌, ◌<◌, ◌≤◌, true, false, ltb, List, [], ◌∷◌, ◌++◌, reverse, length, get_or, drop, set, Some, None, Option, sym, refl, ap, ◌∙◌, subst, inl, inr, arith}
 use Rattle.std.proofs.lemmas.List.{append-nil, append_assoc, reverse-append, length-drop, length-append, length_push, length-set, drop_all, drop-set}
 use Rattle.std.proofs.lemmas.Bool.{cases_Bool, cond-true, cond-false, ltb-true, lt-ltb, false≢true}
 use Rattle.kinds.specs.declared.class.Class.{Ghosts as Classes}
 use Rattle.tables.proofs.Pigeonholes.{pigeonhole}
 use Rattle.charts.specs.declared.chart.Pair.{Pair}
-use Rattle.charts.specs.declared.chart.Chart.{Chart}
 use Rattle.charts.specs.Charts.{Stands}
 use Rattle.charts.specs.declared.runs.Next.{Next}
 use Rattle.charts.specs.declared.runs.Next.TheVariants as next
-use Rattle.charts.specs.Asking.{asked_at}
 use Rattle.charts.specs.Finding.{Nowhere, FirstAt}
-use Rattle.charts.specs.Trails.{on_link, place_after, Home, is_home, next_of, Leads, Counts, Runs, RunsIn, WritesRun}
+use Rattle.charts.specs.Trails.{on_link, place_after, Home, is_home, next_of, Leads, Counts, Runs}
 use Rattle.charts.proofs.Searches.{pair_passes, passes_pair, nowhere_first, first_once}
 use Rattle.charts.proofs.Stands.{none_below, stands_unique}
 
@@ -273,10 +270,3 @@ module _ {C K : Type 0} (b : Classes C) (reel : ℕ) (xs : List (Pair C K)) (p :
   -- nor one whose first place does not lead home
   pub lost_runs : (j : ℕ) → FirstAt b xs p c j → Counts b reel xs j None → (i : ℕ) (ps : List ℕ) → Runs b reel xs p c i ps → ⊥
   lost_runs j f none i ps (f', h) = none ps (subst (λ (k : ℕ). Leads b reel xs k ps) (first_once b p c xs i j f' f) h)
-
-  -- a chart that may be asked answers from its counted places
-  pub asked_runs : (o : Option Chart) (h : Chart) (n : ℕ) (from to : List ℕ) (r : Result ℕ Refusal) → asked_at o (length xs) p ≡ Ok h → n ≡ h.pairs →
-      RunsIn b h.reel (take n xs) p c from to r → WritesRun b o xs p c from to r
-  asked_runs o h n from to r asked counted runs =
-      subst (λ (s : Result Chart Refusal). MatchResult s (λ h. RunsIn b h.reel (take h.pairs xs) p c from to r) (λ e. (r ≡ Err e) × (to ≡ from))) (sym asked)
-      (subst (λ (k : ℕ). RunsIn b h.reel (take k xs) p c from to r) counted runs)

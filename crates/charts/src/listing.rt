@@ -109,6 +109,19 @@ fn list_in<C: Class, K: Cost>(
     Ok(count)
 }
 
+// Lists the counted pairs at the point, if the chart may be asked there.
+fn list_asked<C: Class, K: Cost>(
+    chart: &Option<Chart>,
+    places: &[Pair<C, K>],
+    point: u16,
+    list: &mut [Priced<C, K>],
+) -> Result<usize, Refusal>
+    ensures { ListsAt C.Class K.Cost chart.now places.now point list.old list.new result }
+{
+    let head = asked_at(chart, places.len(), point)?;
+    list_in(&places[0..usize::from(head.pairs)], point, list)
+}
+
 // Lists the classes in which a cable can lie at the point, and says how many they are.
 // Refused if the chart cannot be asked there, or if the list is too short; then nothing is written.
 pub fn list<C: Class, K: Cost>(
@@ -120,6 +133,5 @@ pub fn list<C: Class, K: Cost>(
     ensures answer { ListsAt C.Class K.Cost chart.now places.now point list.old list.new result }
     ensures exact { ListsTruly C.Class K.Cost chart.now places.now point list.new result }
 {
-    let head = asked_at(chart, places.len(), point)?;
-    list_in(&places[0..usize::from(head.pairs)], point, list)
+    list_asked(chart, places, point, list)
 }

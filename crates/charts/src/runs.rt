@@ -118,6 +118,26 @@ fn write_in<C: Class, K: Cost>(
     Ok(count)
 }
 
+// Writes the run of a pair among those that count, if the chart may be asked at the point.
+fn write_asked<C: Class, K: Cost>(
+    chart: &Option<Chart>,
+    places: &[Pair<C, K>],
+    point: u16,
+    class: &C,
+    buffer: &mut [u16],
+) -> Result<usize, Refusal>
+    ensures { WritesRun C.Class chart.now places.now point class.now buffer.old buffer.new result }
+{
+    let head = asked_at(chart, places.len(), point)?;
+    write_in(
+        &places[0..usize::from(head.pairs)],
+        head.reel,
+        point,
+        class,
+        buffer,
+    )
+}
+
 // Writes the points of the run of a pair, the reel first, and says how many they are.
 // Refused if the chart cannot be asked at the point, if it has no run of the pair, or if the buffer is too short; then nothing is written.
 pub fn write_run<C: Class, K: Cost>(
@@ -130,12 +150,5 @@ pub fn write_run<C: Class, K: Cost>(
     ensures answer { WritesRun C.Class chart.now places.now point class.now buffer.old buffer.new result }
     ensures exact { LaysTruly C.Class K.Cost chart.now places.now point class.now buffer.new result }
 {
-    let head = asked_at(chart, places.len(), point)?;
-    write_in(
-        &places[0..usize::from(head.pairs)],
-        head.reel,
-        point,
-        class,
-        buffer,
-    )
+    write_asked(chart, places, point, class, buffer)
 }

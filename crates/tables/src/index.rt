@@ -62,6 +62,7 @@ pub fn find<K: Keys>(slots: &[u16], keys: &K, key: &K::Key) -> Option<Found>
 }
 
 // Lets the first vacant slot on the key's way name the place. No other slot changes.
+#[tactic(auto, using(crate::proofs::Entering::keeps_inserts))]
 pub fn insert<K: Keys>(slots: &mut [u16], keys: &K, key: &K::Key, place: u16) -> Inserted
     ensures placed { Inserts (K.Keys.kind.hash (K.Keys.means key.now)) place slots.old slots.new result }
     ensures kept { Keeps K.Keys.kind (K.Keys.means key.now) place slots.old slots.new }

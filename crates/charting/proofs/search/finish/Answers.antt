@@ -1,6 +1,7 @@
 use Rattle.std.proofs.Common.{◌≡◌, ◌<◌, List, length, sym, subst, arith, rules}
 use Rattle.charts.specs.declared.chart.Pair.{Pair}
-use Rattle.charting.specs.Searches.{Refused, Complete}
+use Rattle.charting.specs.Charts.{TooLarge}
+use Rattle.charting.specs.Searches.{Complete}
 use Rattle.charting.proofs.Searches.{complete}
 use Rattle.charting.proofs.search.finish.Goals as goal
 
@@ -21,7 +22,7 @@ overflow_add-settled g c =
 pub returns-in-None : goal.returns-in-None
 returns-in-None g c =
     let same : length c.take_up.new.places ≡ length c.args.places.now = omega (arith, c.take_up.auto.places, c.loop-places.auto.places) in
-    subst (Refused (g.M.Map.site c.args.task.now.map.now) g.C.Class g.K.Cost c.args.task.now.asked) same c.in-None.ensures
+    subst (TooLarge (g.M.Map.site c.args.task.now.map.now) g.C.Class g.K.Cost c.args.task.now.asked) same c.in-None.ensures
 
 pub returns : goal.returns
 returns g c =

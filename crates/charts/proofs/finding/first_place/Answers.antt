@@ -1,11 +1,6 @@
 use Rattle.std.proofs.Common.{sym, ◌∙◌, arith}
-use Rattle.charts.proofs.Searches.{passed_more, found_here}
+use Rattle.charts.proofs.Searches.{passed_more}
 use Rattle.charts.proofs.finding.first_place.Goals as goal
-
-pub returns-then-is_pair : goal.returns-then-is_pair
-returns-then-is_pair g c =
-    found_here g.C.Class c.args.point c.args.class.now c.args.pairs.now c.loop-place.place c.index-pairs-place.result c.loop-place-test.true
-    c.index-pairs-place.is (sym c.is_pair.ensures ∙ c.if-is_pair.true) c.loop-place.invariant
 
 pub loop-place-preserved : goal.loop-place-preserved
 loop-place-preserved g c =

@@ -1,13 +1,5 @@
-use Rattle.std.proofs.Common.{◌-◌, sym, ◌∙◌, arith}
-use Rattle.charts.proofs.Joining.{asked_lists, lists_truly}
+use Rattle.charts.proofs.Joining.{lists_truly}
 use Rattle.charts.proofs.listing.list.Goals as goal
 
-pub returns : goal.returns
-returns g c =
-    let answer =
-    asked_lists g.C.Class g.K.Cost c.args.chart.now c.args.places.now c.args.point c.args.list.now c.list_in.new.list c.list_in.result
-    c.in_ok-head.head (c.from.result - 0) (sym c.asked_at.ensures ∙ c.in_ok-head.was) (omega arith) c.list_in.ensures in
-    record {
-      answer = answer;
-      exact = lists_truly g.C.Class g.K.Cost c.args.chart.now c.args.places.now c.args.point c.args.list.now c.list_in.new.list c.list_in.result answer;
-    }
+pub returns-clause-exact : goal.returns-clause-exact
+returns-clause-exact g c = lists_truly g.C.Class g.K.Cost _ _ _ _ _ _ c.list_asked.ensures
