@@ -1,5 +1,5 @@
 -- Where a run has come to, one lane on.
-use Rattle.std.proofs.Common.{◌≡◌, ℕ, ◌+◌, ◌<◌, List, [], ◌∷◌, ◌++◌, length, get_or, take, Some, None, sym, ap, ◌∙◌, subst, inl, inr, arith}
+use Rattle.std.proofs.Common.{◌≡◌, ℕ, ◌+◌, ◌<◌, List, [], ◌∷◌, ◌++◌, length, get_or, take, Some, None, Ok, Err, Result, MatchResult, IsErrAnd, sym, ap, ◌∙◌, subst, inl, inr, arith}
 use lib.Seq.{take-append-le}
 use Rattle.std.proofs.lemmas.List.{take_all, take_more, length_push, get_or_default}
 use Rattle.std.proofs.lemmas.Bool.{cases_lt}
@@ -8,12 +8,14 @@ use Rattle.kinds.specs.declared.map.Map.{Ghosts as Maps}
 use Rattle.kinds.specs.declared.class.Class.{Ghosts as Classes}
 use Rattle.kinds.specs.declared.cost.Cost.{Ghosts as Costs}
 use Rattle.kinds.specs.declared.pricing.Along.{Along}
-use Rattle.kinds.specs.declared.pricing.Step.TheVariants.{On, NoLane, NotHeld}
-use Rattle.kinds.specs.declared.pricing.Pricing.TheVariants.{LaneMissing, ClassNotHeld}
+use Rattle.kinds.specs.declared.pricing.Halt.{Halt}
+use Rattle.kinds.specs.declared.pricing.Halt.TheVariants.{NoLane, NotHeld}
+use Rattle.kinds.specs.declared.pricing.Unpriced.{Unpriced}
+use Rattle.kinds.specs.declared.pricing.Unpriced.TheVariants.{LaneMissing, ClassNotHeld}
 use Rattle.kinds.specs.Maps.{LawfulLanes}
 use Rattle.kinds.specs.Classes.{ClassKind, crossed}
 use Rattle.kinds.specs.Runs.{Run, class_of}
-use Rattle.kinds.specs.Pricing.{HeldAlong, Stepped, At, Prices}
+use Rattle.kinds.specs.Pricing.{HeldAlong, halted_at, Stepped, At, Prices}
 use Rattle.kinds.proofs.Runs.{run_push, class_push, cost_push}
 
 module _ (G : ClassKind) where
@@ -38,7 +40,7 @@ module _ {M C K : Type 0} (a : Maps M) (b : Classes C) (c : Costs K) (m : M) (w 
   joined : (l : Lane) → class_of b.kind (ls ++ (l ∷ [])) ≡ b.kind.mul (b.element from.class) (crossed b.kind l.crossing)
   joined l = class_push b.kind ls l ∙ ap (λ g. b.kind.mul g (crossed b.kind l.crossing)) (sym h.2)
 
-  pub at_more : (to : Along C K) → Stepped a b c m from (get_or ns i d) (On to) → (ks : List Lane) × At a b c m p (take (i + 1) ns) ks to
+  at_more : (to : Along C K) → Stepped a b c m from (get_or ns i d) (Ok to) → (ks : List Lane) × At a b c m p (take (i + 1) ns) ks to
   at_more to (l, e, f, g, k) =
       let class = g ∙ sym (joined l) in (
         ls ++ (l ∷ []),
@@ -50,8 +52,21 @@ module _ {M C K : Type 0} (a : Maps M) (b : Classes C) (c : Costs K) (m : M) (w 
         ),
       )
 
-  pub missing_lane : Stepped a b c m from (get_or ns i d) NoLane → Prices a b c m p ns (LaneMissing i)
+  missing_lane : Stepped a b c m from (get_or ns i d) (Err NoLane) → Prices a b c m p ns (Err (LaneMissing i))
   missing_lane e = (q, (ls, from.end, h.0, h.1, λ x. subst (λ n. (a.site m).lane from.end n ≡ None) (get_or_default ns i d x q) e))
 
-  pub class_not_held : Stepped a b c m from (get_or ns i d) NotHeld → Prices a b c m p ns (ClassNotHeld (i + 1))
+  class_not_held : Stepped a b c m from (get_or ns i d) (Err NotHeld) → Prices a b c m p ns (Err (ClassNotHeld (i + 1)))
   class_not_held (l, e, f) = (omega arith, (ls, l, l.to, more l e, h.1, λ k. f (subst b.kind.Held (joined l) k)))
+
+  halted : (h : Halt) → Stepped a b c m from (get_or ns i d) (Err h) → Prices a b c m p ns (Err (halted_at h i))
+  halted NoLane e = missing_lane e
+  halted NotHeld e = class_not_held e
+
+  -- what a step says of the run so far, or of the run as a whole
+  pub stepped_on : (r : Result (Along C K) Halt) (s : Result (Along C K) Unpriced) (Q : Halt → Unpriced → Type 0) → Stepped a b c m from (get_or ns i d) r →
+      MatchResult r (λ to. s ≡ Ok to) (λ h. IsErrAnd s (Q h)) → ((h : Halt) (e : Unpriced) → Q h e → e ≡ halted_at h i) →
+      MatchResult s (λ to. (ks : List Lane) × At a b c m p (take (i + 1) ns) ks to) (λ e. Prices a b c m p ns (Err e))
+  stepped_on (Ok x) (Ok y) Q t e k = subst (λ z. (ks : List Lane) × At a b c m p (take (i + 1) ns) ks z) (cc e) (at_more x t)
+  stepped_on (Ok x) (Err f) Q t e k = absurd (cc e)
+  stepped_on (Err h) (Ok y) Q t e k = absurd e
+  stepped_on (Err h) (Err f) Q t e k = subst (λ z. Prices a b c m p ns (Err z)) (sym (k h f e)) (halted h t)

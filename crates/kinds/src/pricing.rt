@@ -1,9 +1,12 @@
 // The end, class and cost of a run, lane by lane.
-ghost use Rattle.kinds.specs.Pricing.{Stepped, Prices};
+ghost use Rattle.std.specs.Prelude.{◌≡◌, ◌+◌, ◌^◌, ◌<◌};
+ghost use Rattle.kinds.specs.Pricing.{Stepped, halted_at, Prices};
 
 use crate::class::Class;
 use crate::cost::Cost;
 use crate::map::Map;
+use std::error::Error;
+use std::fmt;
 
 // Where a run has come to, with its class and cost so far.
 #[derive(Clone, Copy)]
@@ -13,35 +16,46 @@ pub struct Along<C, K> {
     pub cost: K,
 }
 
-// One lane more: where the run has come to then, or why it cannot go on.
-#[derive(Clone, Copy)]
-pub enum Step<C, K> {
-    On(Along<C, K>),
+// Why a run cannot go on by one lane more: there is no such lane, or the class after it is not held.
+#[derive(Clone, Copy, PartialEq, Eq, Debug)]
+pub enum Halt {
     NoLane,
     NotHeld,
 }
 
-// The run as a whole; the starting point is no point; the lane at this place of the list is missing; or the class after so many lanes is the first that is not held.
-#[derive(Clone, Copy)]
-pub enum Pricing<C, K> {
-    Whole(Along<C, K>),
+impl Halt {
+    // Why a run that halts at the lane at this place of its list has no price.
+    fn at(self, place: usize) -> Unpriced
+        requires { place + 1 < 2 ^ 64 }
+        ensures { result ≡ halted_at self place }
+    {
+        match self {
+            Halt::NoLane => Unpriced::LaneMissing(place),
+            Halt::NotHeld => Unpriced::ClassNotHeld(place + 1),
+        }
+    }
+}
+
+// Why a run has no price: the starting point is no point; the lane at this place of the list is missing; or the class after so many lanes is the first that is not held.
+#[derive(Clone, Copy, PartialEq, Eq, Debug)]
+pub enum Unpriced {
     NoPoint,
     LaneMissing(usize),
     ClassNotHeld(usize),
 }
 
 // Goes on by one lane.
-pub fn go_on<M: Map, C: Class, K: Cost>(map: &M, along: Along<C, K>, number: u16) -> Step<C, K>
+pub fn go_on<M: Map, C: Class, K: Cost>(
+    map: &M,
+    along: Along<C, K>,
+    number: u16,
+) -> Result<Along<C, K>, Halt>
     ensures { Stepped M.Map C.Class K.Cost map.now along number result }
 {
-    let Some(lane) = map.lane(along.end, number) else {
-        return Step::NoLane;
-    };
-    let Some(class) = along.class.after(lane.crossing) else {
-        return Step::NotHeld;
-    };
+    let lane = map.lane(along.end, number).ok_or(Halt::NoLane)?;
+    let class = along.class.after(lane.crossing).ok_or(Halt::NotHeld)?;
     let more = K::of_lane(u32::from(lane.length), lane.risk);
-    Step::On(Along {
+    Ok(Along {
         end: lane.to,
         class,
         cost: along.cost.plus(more),
@@ -49,11 +63,15 @@ pub fn go_on<M: Map, C: Class, K: Cost>(map: &M, along: Along<C, K>, number: u16
 }
 
 // The end, class and cost of the run from a point along the lanes with these numbers.
-pub fn price<M: Map, C: Class, K: Cost>(map: &M, from: u16, numbers: &[u16]) -> Pricing<C, K>
+pub fn price<M: Map, C: Class, K: Cost>(
+    map: &M,
+    from: u16,
+    numbers: &[u16],
+) -> Result<Along<C, K>, Unpriced>
     ensures { Prices M.Map C.Class K.Cost map.now from numbers.now result }
 {
     if from >= map.points() {
-        return Pricing::NoPoint;
+        return Err(Unpriced::NoPoint);
     }
     let mut along = Along {
         end: from,
@@ -61,11 +79,32 @@ pub fn price<M: Map, C: Class, K: Cost>(map: &M, from: u16, numbers: &[u16]) -> 
         cost: K::zero(),
     };
     for (place, number) in numbers.iter().enumerate() {
-        match go_on(map, along, *number) {
-            Step::On(next) => along = next,
-            Step::NoLane => return Pricing::LaneMissing(place),
-            Step::NotHeld => return Pricing::ClassNotHeld(place + 1),
+        along = go_on(map, along, *number).map_err(|halt| halt.at(place))?;
+    }
+    Ok(along)
+}
+
+impl fmt::Display for Halt {
+    fn fmt<W: fmt::Write>(&self, f: &mut fmt::Formatter<W>) -> fmt::Result {
+        match self {
+            Halt::NoLane => write!(f, "the lane is missing"),
+            Halt::NotHeld => write!(f, "the class is not held"),
         }
     }
-    Pricing::Whole(along)
 }
+
+impl Error for Halt {}
+
+impl fmt::Display for Unpriced {
+    fn fmt<W: fmt::Write>(&self, f: &mut fmt::Formatter<W>) -> fmt::Result {
+        match self {
+            Unpriced::NoPoint => write!(f, "the run begins at no point of the map"),
+            Unpriced::LaneMissing(place) => write!(f, "the lane at place {place} is missing"),
+            Unpriced::ClassNotHeld(count) => {
+                write!(f, "the class after {count} lanes is not held")
+            }
+        }
+    }
+}
+
+impl Error for Unpriced {}

@@ -5,4 +5,4 @@ use Rattle.kinds.proofs.pricing.price.Given as goal
 
 -- the numbers so far name a run that has come this far
 abbrev pub invariant-loop-place : goal.invariant-loop-place
-invariant-loop-place g l = (ls : List Lane) × At g.M.Map g.C.Class g.K.Cost l.map l.from (take l.place l.numbers) ls l.along
+invariant-loop-place g l = (ls : List Lane) × At g.M.Map g.C.Class g.K.Cost l.map l.from (take l.place-counter l.numbers) ls l.along
