@@ -35,13 +35,7 @@ pub trait Map {
     fn next_lane(&self, point: u16, from: u16) -> Option<u16>
         ensures { Next (site self.now) point from result }
     {
-        let limit = self.limit();
-        for number in from..limit {
-            if self.has_lane(point, number) {
-                return Some(number);
-            }
-        }
-        None
+        (from..self.limit()).find(|number| self.has_lane(point, *number))
     }
 
     ghost lanes: { (m : Self) → LawfulLanes (site m) };

@@ -1,24 +1,11 @@
-use Rattle.std.proofs.Common.{◌≡◌, None, subst, inl, inr, arith}
-use Rattle.std.proofs.lemmas.Bool.{cases_lt}
-use Rattle.kinds.proofs.Options.{some_from_test, none_from_test}
-use Rattle.kinds.proofs.Maps.{no_lane_from_limit}
+use Rattle.std.proofs.Common.{◌≡◌, true, false, is_some, rules}
+use Rattle.std.proofs.lemmas.Iterator.{first_from_Range}
+use Rattle.kinds.proofs.Maps.{next_from_first}
 use Rattle.kinds.proofs.map.Map.next_lane.Goals as goal
 
-pub returns-then-has_lane : goal.returns-then-has_lane
-returns-then-has_lane g c =
-    (omega arith, some_from_test ((g.Self.Map.site c.args.self.now).lane c.args.point c.loop-number.number) c.if-has_lane.ensures, c.loop-number.invariant)
-
-pub loop-number-preserved : goal.loop-number-preserved
-loop-number-preserved g c = λ j p q.
-    let lane = (g.Self.Map.site c.args.self.now).lane c.args.point in
-    elim (cases_lt j c.loop-number.number) [
-      | inl h ↦ c.loop-number.invariant j p h
-      | inr h ↦ subst (λ n. lane n ≡ None) (omega arith) (none_from_test (lane c.loop-number.number) c.if-has_lane.ensures)
-    ]
-
 pub returns : goal.returns
-returns g c = λ k p.
-    elim (cases_lt k c.loop-number.number) [
-      | inl h ↦ c.loop-number.invariant k p h
-      | inr h ↦ no_lane_from_limit (g.Self.Map.site c.args.self.now) (g.met.Self.Map.lanes c.args.self.now) c.args.point k (omega arith)
-    ]
+returns g c =
+    let site = g.Self.Map.site c.args.self.now in
+    next_from_first site (g.met.Self.Map.lanes c.args.self.now) c.args.point c.args.from c.limit.result c.find.result c.limit.ensures
+    (first_from_Range _ _ _ c.find.result (λ n. true ≡ is_some (site.lane c.args.point n)) (λ n. false ≡ is_some (site.lane c.args.point n)) c.find.ensures.ran
+    (λ x q k. search rules) (λ x q k. search rules))
