@@ -1,6 +1,7 @@
 pub mod Orders
 pub mod Comparisons
 pub mod Crossings
+pub mod Symbols
 pub mod Refusals
 pub mod Classes
 pub mod Costs

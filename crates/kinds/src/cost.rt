@@ -25,6 +25,7 @@ pub trait Cost: Sized + Copy {
         ensures { result ≡ costs.limit cable };
 
     // The total order of costs: equal only for equal costs.
+    // No `Ord`: `costs` states the laws of the order, and `Ord` with the three traits that it needs would state them again.
     fn compare(&self, other: &Self) -> Ordering
         ensures { result ≡ costs.order.cmp self.now other.now };
 }

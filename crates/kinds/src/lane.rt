@@ -2,7 +2,7 @@
 use crate::crossing::Crossing;
 
 // The point it leads to, its length in centimetres, its risk, and what it crosses.
-#[derive(Clone, Copy)]
+#[derive(Clone, Copy, PartialEq, Eq, Debug)]
 pub struct Lane {
     pub to: u16,
     pub length: u16,

@@ -2,10 +2,11 @@
 ghost use Rattle.std.specs.Prelude.{◌≡◌};
 ghost use Rattle.kinds.specs.Refusals.{number_of, offset_of};
 
+use std::error::Error;
 use std::fmt;
 
 // The variants in the order of their numbers, 1 to 21. Those about a command of a plan hold its offset.
-#[derive(Clone, Copy)]
+#[derive(Clone, Copy, PartialEq, Eq, Debug)]
 pub enum Refusal {
     PlanTooLong,
     MemorySize,
@@ -120,3 +121,5 @@ impl fmt::Display for Refusal {
         }
     }
 }
+
+impl Error for Refusal {}
