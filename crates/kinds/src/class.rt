@@ -28,7 +28,7 @@ pub trait Class: Sized + Copy {
         ensures { After kind element (element self.now) crossing result };
 
     // The total order of classes: equal exactly for equal elements.
-    // No `Ord`: its laws tell unequal values apart, and values of one element may differ, as in what stands behind a word's letters.
+    // No `Ord`: `kind` states the laws of the order, and `Ord` with the three traits that it needs would state them again.
     fn compare(&self, other: &Self) -> Ordering
         ensures { result ≡ kind.order.cmp (element self.now) (element other.now) };
 
