@@ -1,26 +1,37 @@
 -- The inverse of a word, letter by letter.
-use Rattle.std.proofs.Common.{◌≡◌, ℕ, ◌+◌, ◌-◌, ◌<◌, ◌≤◌, List, [], ◌∷◌, ◌++◌, length, get_or, take, drop, set, sym, ap, ◌∙◌, arith}
-use Rattle.std.proofs.lemmas.List.{take_more_set, drop_more, drop_all, get_or-take, length-take-le}
+use Rattle.std.proofs.Common.{◌≡◌, ℕ, ◌+◌, ◌<◌, ◌≤◌, List, [], ◌∷◌, ◌++◌, length, get_or, map, take, drop, set, sym, refl, ap, ◌∙◌, arith, length-append, length-drop}
+use Rattle.std.proofs.Math.Seq.{take-append_seam}
+use Rattle.std.proofs.lemmas.List.{take_more, take_more_set, drop_more, drop-set-lt, map_push, length-take-le, reverse-append}
+use mathlib.Core.List.{reverse}
 use Rattle.classes.specs.declared.letters.Letter.{Letter}
 use Rattle.classes.specs.declared.letters.Letter.TheVariants.{LowerA}
 use Rattle.classes.specs.Letters.{turned}
-use Rattle.classes.specs.Reduced.{mirror}
+use Rattle.classes.specs.Reduced.{mirror, length-mirror}
 
--- one more letter of the inverse
-pub mirror_more : (ls ms : List Letter) (n i : ℕ) → n ≤ length ls → i < n → i < length ms → take i ms ≡ mirror (drop (n - i) (take n ls)) → take (i + 1) (set ms i (turned (get_or ls (n - 1 - i) LowerA))) ≡ mirror (drop (n - (i + 1)) (take n ls))
-mirror_more ls ms n i p q r h =
-    let j : ℕ = n - (i + 1) in
-    let inside : j < length (take n ls) = omega (arith, length-take-le n ls p) in
-    let low : j < n = omega arith in
-    take_more_set ms i (turned (get_or ls (n - 1 - i) LowerA)) r
-    ∙ ap (λ w. w ++ (turned (get_or ls (n - 1 - i) LowerA) ∷ [])) h
-    ∙ ap (λ k. mirror (drop k (take n ls)) ++ (turned (get_or ls (n - 1 - i) LowerA) ∷ [])) (omega arith)
-    ∙ ap (λ k. mirror (drop (j + 1) (take n ls)) ++ (turned (get_or ls k LowerA) ∷ [])) (omega arith)
-    ∙ ap (λ b. mirror (drop (j + 1) (take n ls)) ++ (turned b ∷ [])) (sym (get_or-take n ls j LowerA low))
-    ∙ ap mirror (sym (drop_more (take n ls) j LowerA inside))
+-- one more letter turned
+pub turned_more : (rs ws : List Letter) (i : ℕ) (a : Letter) → i < length ws → length ws ≡ length rs → take i ws ≡ map turned (take i rs) → drop i ws ≡ drop i rs → a ≡ turned (get_or ws i LowerA) →
+    (take (i + 1) (set ws i a) ≡ map turned (take (i + 1) rs)) × (drop (i + 1) (set ws i a) ≡ drop (i + 1) rs)
+turned_more rs ws i a p e h k t =
+    let q : i < length rs = omega arith in
+    let u = drop_more ws i LowerA p in
+    let v = drop_more rs i LowerA q in
+    let same : a ≡ turned (get_or rs i LowerA) = cc in (
+      take_more_set ws i a p
+          ∙ (λ j. h j ++ (same j ∷ []))
+          ∙ sym (map_push turned (take i rs) (get_or rs i LowerA))
+          ∙ ap (map turned) (sym (take_more rs i LowerA q)),
+      drop-set-lt (i + 1) ws i a (omega arith) ∙ cc,
+    )
 
-pub mirror_all : (ls ms : List Letter) (n i : ℕ) → i ≡ n → take i ms ≡ mirror (drop (n - i) (take n ls)) → take n ms ≡ mirror (take n ls)
-mirror_all ls ms n i e h = let z : n - i ≡ 0 = omega arith in ap (λ k. take k ms) (sym e) ∙ h ∙ ap (λ k. mirror (drop k (take n ls))) z
+pub turned_reverse : (w : List Letter) → map turned (reverse w) ≡ mirror w
+turned_reverse [] = refl
+turned_reverse (a ∷ w) = ap (map turned) (reverse-append (a ∷ []) w) ∙ map_push turned (reverse w) a ∙ ap (λ v. v ++ (turned a ∷ [])) (turned_reverse w)
 
-pub mirror_none : (ls : List Letter) (n : ℕ) → n ≤ length ls → [] ≡ mirror (drop (n - 0) (take n ls))
-mirror_none ls n p = sym (ap mirror (drop_all (n - 0) (take n ls) (omega (arith, length-take-le n ls p))))
+-- the first letters of a list, turned round where they stand
+pub front_turned : (ls ms : List Letter) (n i : ℕ) → i ≡ n → n ≤ length ls → ms ≡ mirror (take i ls) →
+    (length (ms ++ drop i ls) ≡ length ls) × (take n (ms ++ drop i ls) ≡ mirror (take n ls))
+front_turned ls ms n i q p e =
+    let l : length ms ≡ i = ap length e ∙ length-mirror (take i ls) ∙ length-take-le i ls (omega arith) in (
+      omega (arith, length-append ms (drop i ls), length-drop i ls),
+      ap (λ k. take k (ms ++ drop i ls)) (sym (l ∙ q)) ∙ take-append_seam ms (drop i ls) ∙ e ∙ ap (λ k. mirror (take k ls)) q,
+    )

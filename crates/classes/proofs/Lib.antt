@@ -4,3 +4,4 @@ pub mod Inverses
 pub mod Joins
 pub mod Spelled
 pub mod Parities
+pub mod Ranks

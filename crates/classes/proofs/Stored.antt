@@ -1,5 +1,5 @@
 -- What one more crossing does to a stored word.
-use Rattle.std.proofs.Common.{◌≡◌, ◌+◌, ◌-◌, ◌<◌, ◌≤◌, List, length, take, set, Some, None, Option, sym, refl, ap, ◌∙◌, subst, arith, MatchOption}
+use Rattle.std.proofs.Common.{◌≡◌, ℕ, ◌+◌, ◌-◌, ◌<◌, ◌≤◌, List, length, take, set, Some, None, Option, sym, refl, ap, ◌∙◌, subst, arith, MatchOption}
 use Rattle.std.proofs.lemmas.List.{take-take, take_more_set, length-take-le, length_push}
 use Rattle.kinds.specs.declared.crossing.Crossing.{Crossing}
 use Rattle.kinds.specs.declared.crossing.Crossing.TheVariants as cross
@@ -26,8 +26,8 @@ module _ (s : Stored) (a : Letter) where
       let l : length spelt - 1 ≡ s.len - 1 = omega (arith, length-take-le s.len s.letters fits) in
       sym (take-take (s.len - 1) s.len s.letters (omega arith)) ∙ ap (λ m. take m spelt) (sym l) ∙ shortened spelt a sound e
 
-  pub stored : s.len < longest → (EndsIn spelt (turned a) → ⊥) → take (s.len + 1) (set s.letters s.len a) ≡ (acts spelt (single (Some a))).0
-  stored p f = take_more_set s.letters s.len a (omega (arith, s.room)) ∙ lengthened spelt a sound f
+  pub stored : (i : ℕ) → i ≡ s.len → s.len < longest → (EndsIn spelt (turned a) → ⊥) → take (s.len + 1) (set s.letters i a) ≡ (acts spelt (single (Some a))).0
+  stored i e p f = ap (λ j. take (s.len + 1) (set s.letters j a)) e ∙ take_more_set s.letters s.len a (omega (arith, s.room)) ∙ lengthened spelt a sound f
 
   pub too_long : longest ≤ s.len → (EndsIn spelt (turned a) → ⊥) → length (acts spelt (single (Some a))).0 ≤ longest → ⊥
   too_long p f k = omega (arith, ap length (lengthened spelt a sound f), length_push spelt a, length-take-le s.len s.letters fits)

@@ -84,7 +84,7 @@ crossing_of UpperG = cross.Backwards Seven
 abbrev pub alphabet : List Letter
 alphabet = LowerA ∷ UpperA ∷ LowerB ∷ UpperB ∷ LowerC ∷ UpperC ∷ LowerD ∷ UpperD ∷ LowerE ∷ UpperE ∷ LowerF ∷ UpperF ∷ LowerG ∷ UpperG ∷ []
 
-get_or_rank : (a : Letter) → slice_index_or alphabet (rank_of a) LowerA ≡ a
+pub get_or_rank : (a : Letter) → slice_index_or alphabet (rank_of a) LowerA ≡ a
 get_or_rank LowerA = refl
 get_or_rank UpperA = refl
 get_or_rank LowerB = refl

@@ -3,5 +3,4 @@ pub mod Reduced
 pub mod Words
 pub mod Strikes
 pub mod Sides
-pub mod Symbols
 pub mod Reading

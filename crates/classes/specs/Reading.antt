@@ -5,7 +5,7 @@ use Rattle.std.specs.Prelude.{◌≡◌, ℕ, ◌<◌, List, [], map, length, ta
 use Rattle.kinds.specs.declared.crossing.Crossing.{Crossing}
 use Rattle.classes.specs.declared.symbols.Unread.{Unread}
 use Rattle.classes.specs.declared.symbols.Unread.TheVariants.{Symbol, Memory}
-use Rattle.classes.specs.Symbols.{symbol_of}
+use Rattle.kinds.specs.Symbols.{symbol_of}
 
 abbrev pub ReadAll : List ℕ → ℕ → List Crossing → Result (Unit {0}) Unread → Type 0
 ReadAll cs room xs (Ok u) = map symbol_of xs ≡ cs

@@ -6,7 +6,7 @@
 --     mixed h a        the hash h, going on with the letter a
 --     hashed h w       the hash of the letters w, going on from h
 --     word xs          the letters of the class of the crossings xs
-use Rattle.std.specs.Prelude.{◌≡◌, ℕ, ◌+◌, ◌*◌, ◌%◌, ◌^◌, ◌≤◌, List, [], ◌∷◌, length, Some, None, Option, refl}
+use Rattle.std.specs.Prelude.{◌≡◌, ℕ, ◌+◌, ◌*◌, ◌%◌, ◌^◌, ◌≤◌, List, [], ◌∷◌, fold, length, Some, None, Option, refl}
 use Rattle.std.proofs.Common.{sym, ap, ◌∙◌, arith, lit≤}
 use Rattle.kinds.specs.declared.crossing.Crossing.{Crossing}
 use Rattle.kinds.specs.Orders.{Ordered}
@@ -73,8 +73,7 @@ abbrev pub mixed : ℕ → Letter → ℕ
 mixed h a = ((h * 31) % 2 ^ 32 + (rank_of a + 1)) % 2 ^ 32
 
 abbrev pub hashed : ℕ → List Letter → ℕ
-hashed h [] = h
-hashed h (a ∷ w) = hashed (mixed h a) w
+hashed h w = fold mixed h w
 
 abbrev pub word : List Crossing → List Letter
 word xs = (product words xs).0

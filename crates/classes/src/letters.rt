@@ -1,15 +1,11 @@
 // The letters of words: a ray forwards or backwards.
-ghost use Rattle.std.specs.Prelude.{◌≡◌, true, Some, refl};
-ghost use Rattle.classes.specs.Letters.{rank_of, turned, letter_of, crossing_of, forwards_of, letters};
-ghost use Rattle.std.specs.Cmp.Rules.{comparing};
-ghost use Rattle.std.proofs.Common.{rules};
-ghost use Rattle.std.specs.Cmp.{partial_order_from_agreeing_total, on_total, nat_cmp_total};
+ghost use Rattle.std.specs.Prelude.{◌≡◌};
+ghost use Rattle.classes.specs.Letters.{rank_of, turned, letter_of, crossing_of, forwards_of};
 
 use kinds::crossing::{Crossing, Ray};
-use std::cmp::Ordering;
 
 // Ray 1 is a forwards and A backwards, up to ray 7 with g and G; in the order a, A, b, B, up to G.
-#[derive(Clone, Copy, PartialEq, Eq)]
+#[derive(Clone, Copy, PartialEq, Eq, PartialOrd, Ord, Debug)]
 pub enum Letter {
     LowerA,
     UpperA,
@@ -72,7 +68,7 @@ impl Letter {
         }
     }
 
-    // The letter of a crossing; none if it crosses no ray.
+    // The letter of a crossing; none if it crosses no ray. An `Option`, as it is no error to have none.
     pub fn of(crossing: Crossing) -> Option<Letter>
         ensures { result ≡ letter_of crossing }
     {
@@ -82,12 +78,14 @@ impl Letter {
             Crossing::Backwards(ray) => Some(Letter::forwards(ray).opposite()),
         }
     }
+}
 
-    // The crossing that it stands for.
-    pub fn crossing(self) -> Crossing
-        ensures { result ≡ crossing_of self }
-    {
-        match self {
+// The crossing that a letter stands for.
+impl From<Letter> for Crossing {
+    ghost from_gives = { λ letter crossing. crossing ≡ crossing_of letter };
+
+    fn from(letter: Letter) -> Crossing {
+        match letter {
             Letter::LowerA => Crossing::Forwards(Ray::One),
             Letter::UpperA => Crossing::Backwards(Ray::One),
             Letter::LowerB => Crossing::Forwards(Ray::Two),
@@ -103,30 +101,5 @@ impl Letter {
             Letter::LowerG => Crossing::Forwards(Ray::Seven),
             Letter::UpperG => Crossing::Backwards(Ray::Seven),
         }
-    }
-}
-
-impl PartialOrd for Letter {
-    ghost partial_cmp = { λ x y. Some (letters.cmp x y) };
-
-    ghost laws = { partial_order_from_agreeing_total (λ x y. letters.cmp x y) (on_total rank_of nat_cmp_total) (λ _ _. refl) (Prim.search (comparing, rules)) };
-
-    fn partial_cmp(&self, other: &Letter) -> Option<Ordering> {
-        Some(self.cmp(other))
-    }
-}
-
-// By rank.
-impl Ord for Letter {
-    ghost cmp = { λ x y. letters.cmp x y };
-
-    ghost total = { on_total rank_of nat_cmp_total };
-
-    ghost matches_partial_cmp = { Prim.search (comparing, rules) };
-
-    ghost matches_eq = { Prim.search (comparing, rules) };
-
-    fn cmp(&self, other: &Letter) -> Ordering {
-        self.rank().cmp(&other.rank())
     }
 }

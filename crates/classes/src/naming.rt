@@ -31,9 +31,8 @@ pub fn name(crossings: &[Crossing], word: &mut Vec<Letter>) -> Result<(), AllocE
     word.clear();
     word.reserve(crossings.len())?;
     for crossing in crossings {
-        match Letter::of(*crossing) {
-            Some(more) => join(word, more),
-            None => {}
+        if let Some(more) = Letter::of(*crossing) {
+            join(word, more);
         }
     }
     Ok(())

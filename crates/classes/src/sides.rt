@@ -1,16 +1,17 @@
 // Sides: for each ray, whether it was crossed an odd number of times.
-ghost use Rattle.std.specs.Prelude.{◌≡◌, ◌-◌, ◌≤◌, not};
+ghost use Rattle.std.specs.Prelude.{◌≡◌, ◌-◌};
 ghost use Rattle.kinds.specs.Crossings.{numbered};
 ghost use Rattle.kinds.specs.Classes.{crossed, product};
-ghost use Rattle.classes.specs.Sides.{sides, stored, bit_of, digest_of, Tells};
+ghost use Rattle.classes.specs.Sides.{sides, stored, digest_of, Tells};
 ghost use Rattle.std.proofs.Common.{rules};
 
 use kinds::class::Class;
 use kinds::crossing::{Crossing, Ray};
 use std::cmp::Ordering;
+use std::fmt;
 
 // One bit a ray, ray 1 first: set if it was crossed an odd number of times.
-#[derive(Clone, Copy)]
+#[derive(Clone, Copy, PartialEq, Eq, Debug)]
 pub struct Sides {
     odd: [bool; 7],
 }
@@ -19,22 +20,7 @@ pub struct Sides {
 fn place(ray: Ray) -> usize
     ensures { result ≡ numbered ray - 1 }
 {
-    (ray.number() - 1) as usize
-}
-
-// One crossing more.
-fn flipped(odd: bool) -> bool
-    ensures { result ≡ not odd }
-{
-    !odd
-}
-
-// A bit as a number.
-fn bit(odd: bool) -> u32
-    ensures value { result ≡ bit_of odd }
-    ensures bound { result ≤ 1 }
-{
-    u32::from(odd)
+    usize::from(ray.number() - 1)
 }
 
 impl Sides {
@@ -50,11 +36,7 @@ impl Sides {
         ensures product { stored result.odd ≡ product sides crossings.now }
         ensures tells { Tells crossings.now (stored result.odd) }
     {
-        let mut all = Sides { odd: [false; 7] };
-        for crossing in crossings {
-            all = all.crossed_by(*crossing);
-        }
-        all
+        crossings.iter().fold(Sides::unit(), |sides, crossing| sides.crossed_by(*crossing))
     }
 
     // After one more crossing.
@@ -63,8 +45,7 @@ impl Sides {
     {
         match crossing {
             Crossing::None => *self,
-            Crossing::Forwards(ray) => self.flipped_at(ray),
-            Crossing::Backwards(ray) => self.flipped_at(ray),
+            Crossing::Forwards(ray) | Crossing::Backwards(ray) => self.flipped_at(ray),
         }
     }
 
@@ -74,7 +55,7 @@ impl Sides {
     {
         let mut odd = self.odd;
         let at = place(ray);
-        odd[at] = flipped(odd[at]);
+        odd[at] = !odd[at];
         Sides { odd }
     }
 }
@@ -104,14 +85,25 @@ impl Class for Sides {
         self.odd.cmp(&other.odd)
     }
 
+    // Written out: the step of a fold would know no bound of its sum.
     fn digest(&self) -> u32 {
         let [one, two, three, four, five, six, seven] = self.odd;
-        bit(one)
-            + 2 * bit(two)
-            + 4 * bit(three)
-            + 8 * bit(four)
-            + 16 * bit(five)
-            + 32 * bit(six)
-            + 64 * bit(seven)
+        u32::from(one)
+            + 2 * u32::from(two)
+            + 4 * u32::from(three)
+            + 8 * u32::from(four)
+            + 16 * u32::from(five)
+            + 32 * u32::from(six)
+            + 64 * u32::from(seven)
+    }
+}
+
+// Seven digits, ray 1 first: 1 if the ray was crossed an odd number of times.
+impl fmt::Display for Sides {
+    fn fmt<W: fmt::Write>(&self, f: &mut fmt::Formatter<W>) -> fmt::Result {
+        for odd in self.odd {
+            f.write_char(if odd { '1' } else { '0' })?;
+        }
+        Ok(())
     }
 }

@@ -1,8 +1,8 @@
 // What is asked of the letters of a word, as a slice.
-ghost use Rattle.std.specs.Prelude.{◌≡◌, ◌≤◌, length, Decides, MatchBool};
+ghost use Rattle.std.specs.Prelude.{◌≡◌, ◌≤◌, length, map, Decides, MatchBool};
 ghost use Rattle.kinds.specs.Comparisons.{lists};
 ghost use Rattle.classes.specs.Letters.{turned, letters};
-ghost use Rattle.classes.specs.Reduced.{EndsIn};
+ghost use Rattle.classes.specs.Reduced.{EndsIn, mirror};
 ghost use Rattle.classes.specs.Words.{shortlex, mixed, hashed, longest};
 
 use crate::letters::Letter;
@@ -10,6 +10,7 @@ use crate::words::LONGEST;
 use std::cmp::Ordering;
 
 // By the first letter that differs.
+#[tactic(auto, using(crate::proofs::Ranks::letters_by_rank))]
 fn by_letters(left: &[Letter], right: &[Letter]) -> Ordering
     ensures { result ≡ (lists letters).cmp left.now right.now }
 {
@@ -35,21 +36,32 @@ fn hash_more(sum: u32, letter: Letter) -> u32
 pub fn hash(word: &[Letter]) -> u32
     ensures { result ≡ hashed 0 word.now }
 {
-    let mut sum: u32 = 0;
-    for letter in word {
-        sum = hash_more(sum, *letter);
+    word.iter().fold(0, |sum, letter| hash_more(sum, *letter))
+}
+
+// The opposite of each letter.
+fn turn_each(word: &mut [Letter])
+    ensures { word.new ≡ map turned word.old }
+{
+    for letter in word.iter_mut() {
+        *letter = letter.opposite();
     }
-    sum
+}
+
+// The letters of the inverse: the opposites in the opposite order.
+#[tactic(auto, using(crate::proofs::Inverses::turned_reverse))]
+pub(crate) fn turn_round(word: &mut [Letter])
+    ensures { word.new ≡ mirror word.old }
+{
+    word.reverse();
+    turn_each(word);
 }
 
 // Whether one more letter cancels: the last letter is its opposite.
 pub fn cancels(word: &[Letter], more: Letter) -> bool
     ensures { MatchBool result (EndsIn word.now (turned more)) (EndsIn word.now (turned more) → ⊥) }
 {
-    match word {
-        [.., last] => *last == more.opposite(),
-        [] => false,
-    }
+    word.last() == Some(&more.opposite())
 }
 
 // Whether a word of these letters is held.

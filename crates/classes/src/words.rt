@@ -1,11 +1,11 @@
 // Words: the free group on seven letters. A word tells every homotopy class from every other.
-ghost use Rattle.std.specs.Prelude.{◌≡◌, ◌-◌, ◌<◌, ◌≤◌, length, take, Some, MatchBool, MatchOption};
+ghost use Rattle.std.specs.Prelude.{◌≡◌, ◌<◌, ◌≤◌, length, take, Some, MatchBool, MatchOption};
 ghost use Rattle.std.proofs.Common.{length-take, arith};
 ghost use Rattle.classes.specs.Reduced.{Reduced, acts, known};
 ghost use Rattle.classes.specs.Words.{longest, words, single, hashed};
 
 use crate::letters::Letter;
-use crate::spelling::{by_length, cancels, hash};
+use crate::spelling::{by_length, cancels, hash, turn_round};
 use kinds::class::Class;
 use kinds::crossing::Crossing;
 use std::cmp::Ordering;
@@ -13,7 +13,8 @@ use std::cmp::Ordering;
 // The most letters of a word that is held.
 pub const LONGEST: usize = 32;
 
-// A reduced word that is held: the first `len` letters. What stands behind them counts for nothing.
+// A reduced word that is held: the first `len` letters. What stands behind them counts for nothing, so no `PartialEq` is derived.
+// An array and a length, as a word must be `Copy`, take no heap and be small: 33 bytes.
 #[derive(Clone, Copy)]
 pub struct Word {
     letters: [Letter; LONGEST],
@@ -28,7 +29,7 @@ impl Word {
     pub fn as_slice(&self) -> &[Letter]
         ensures { result.now ≡ take self.now.len self.now.letters }
     {
-        &self.letters[0..self.len as usize]
+        &self.letters[..usize::from(self.len)]
     }
 
     // One more letter at the right end, or cancelling there; none if that word is not held.
@@ -46,7 +47,7 @@ impl Word {
         if is_full(len) {
             return None;
         }
-        letters[len as usize] = more;
+        letters[usize::from(len)] = more;
         Some(Word {
             letters,
             len: len + 1,
@@ -58,15 +59,7 @@ impl Word {
 fn is_full(len: u8) -> bool
     ensures { MatchBool result (longest ≤ len) (len < longest) }
 {
-    len as usize >= LONGEST
-}
-
-// The place that is as far from the end as `place` is from the start.
-fn from_end(place: u8, len: u8) -> usize
-    requires { place < len }
-    ensures { result ≡ len - 1 - place }
-{
-    (len - 1 - place) as usize
+    usize::from(len) >= LONGEST
 }
 
 impl Class for Word {
@@ -86,12 +79,12 @@ impl Class for Word {
     }
 
     fn inverse(&self) -> Word {
-        let mut letters = [Letter::LowerA; LONGEST];
-        let len = self.len;
-        for place in 0..len {
-            letters[place as usize] = self.letters[from_end(place, len)].opposite();
+        let mut letters = self.letters;
+        turn_round(&mut letters[..usize::from(self.len)]);
+        Word {
+            letters,
+            len: self.len,
         }
-        Word { letters, len }
     }
 
     fn after(&self, crossing: Crossing) -> Option<Word> {

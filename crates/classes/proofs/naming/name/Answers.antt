@@ -5,7 +5,7 @@ use Rattle.classes.specs.Words.{word}
 use Rattle.classes.proofs.Joins.{names_word}
 use Rattle.classes.proofs.Spelled.{word_letter, word_none}
 use Rattle.classes.proofs.naming.name.Goals as goal
-use Rattle.classes.proofs.naming.name.Goals.{in-Some, in-None}
+use Rattle.classes.proofs.naming.name.Goals.{in-Some, in_default}
 
 pub loop-crossing-preserved : goal.loop-crossing-preserved
 loop-crossing-preserved c =
@@ -21,10 +21,10 @@ loop-crossing-preserved c =
             omega (arith, len, u.join.ensures.bound, c.loop-crossing.invariant.1),
             omega (arith, cap, u.join.ensures.capacity, c.loop-crossing.invariant.2),
           )
-      | in-None u ↦
+      | in_default u ↦
           let len = ap (λ a. vec_len a) u.word-is in
           let cap = ap (λ a. vec_capacity a) u.word-is in (
-            word_none xs i cross.None w v (omega arith) c.loop-crossing.invariant.0 (sym c.of.ensures ∙ u.in-None.is) (ap (λ a. vec_items a) u.word-is),
+            word_none xs i cross.None w v (omega arith) c.loop-crossing.invariant.0 (sym c.of.ensures ∙ u.in_default.is) (ap (λ a. vec_items a) u.word-is),
             omega (arith, len, c.loop-crossing.invariant.1),
             omega (arith, cap, c.loop-crossing.invariant.2),
           )

@@ -22,10 +22,10 @@ returns-then-is_full c =
 pub invariant_of-result-2 : goal.invariant_of-result-2
 invariant_of-result-2 c =
     let s = c.args.self.now in
-    let e = stored s c.args.more c.if-is_full.ensures (subst (λ w. EndsIn w (turned c.args.more) → ⊥) c.as_slice.ensures c.if-cancels.ensures) in
-    record { room = length-set s.letters s.len c.args.more ∙ s.room; short = omega (arith, c.if-is_full.ensures); reduced = reduced_as s c.args.more _ e }
+    let e = stored s c.args.more c.from.result c.from.ensures c.if-is_full.ensures (subst (λ w. EndsIn w (turned c.args.more) → ⊥) c.as_slice.ensures c.if-cancels.ensures) in
+    record { room = length-set s.letters c.from.result c.args.more ∙ s.room; short = omega (arith, c.if-is_full.ensures); reduced = reduced_as s c.args.more _ e }
 
 pub returns : goal.returns
 returns c =
-    stored c.args.self.now c.args.more c.if-is_full.ensures
+    stored c.args.self.now c.args.more c.from.result c.from.ensures c.if-is_full.ensures
     (subst (λ w. EndsIn w (turned c.args.more) → ⊥) c.as_slice.ensures c.if-cancels.ensures)
