@@ -4,9 +4,18 @@ ghost use Rattle.costs.specs.Limits.{most};
 
 pub mod cost;
 
+use std::fmt;
+
 // A length in centimetres, at most 1,000,000,000.
-#[derive(Clone, Copy)]
+#[derive(Clone, Copy, PartialEq, Eq, PartialOrd, Ord, Debug)]
 pub struct Length {
-    pub(crate) centimetres: u32,
+    centimetres: u32,
     ghost top: { centimetres ≤ most },
+}
+
+// As a plain number, in centimetres.
+impl fmt::Display for Length {
+    fn fmt<W: fmt::Write>(&self, f: &mut fmt::Formatter<W>) -> fmt::Result {
+        self.centimetres.fmt(f)
+    }
 }

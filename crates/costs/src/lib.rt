@@ -2,5 +2,4 @@
 #![tactic(auto)]
 
 pub mod length;
-pub mod shown;
 pub mod slope;

@@ -5,25 +5,19 @@ ghost use Rattle.costs.specs.Slopes.{slopes};
 
 use kinds::cost::Cost;
 use std::cmp::Ordering;
+use std::fmt;
 
 // A slope, 0 to 255.
-#[derive(Clone, Copy)]
+#[derive(Clone, Copy, PartialEq, Eq, PartialOrd, Ord, Debug)]
 pub struct Slope {
-    pub(crate) grade: u8,
+    grade: u8,
 }
-
-// The largest slope that is a limit.
-const STEEPEST: u32 = 255;
 
 // The smaller of the number and the steepest slope.
 fn capped(number: u32) -> u8
     ensures { result ≡ min number steepest }
 {
-    if number < STEEPEST {
-        number as u8
-    } else {
-        u8::MAX
-    }
+    u8::try_from(number).unwrap_or(u8::MAX)
 }
 
 impl Cost for Slope {
@@ -50,6 +44,13 @@ impl Cost for Slope {
     }
 
     fn compare(&self, other: &Slope) -> Ordering {
-        self.grade.cmp(&other.grade)
+        self.cmp(other)
+    }
+}
+
+// As a plain number.
+impl fmt::Display for Slope {
+    fn fmt<W: fmt::Write>(&self, f: &mut fmt::Formatter<W>) -> fmt::Result {
+        self.grade.fmt(f)
     }
 }

@@ -48,6 +48,6 @@ impl Cost for Length {
     }
 
     fn compare(&self, other: &Length) -> Ordering {
-        self.centimetres.cmp(&other.centimetres)
+        self.cmp(other)
     }
 }
