@@ -77,9 +77,7 @@ impl Refusal {
             _ => None,
         }
     }
-}
 
-impl Refusal {
     // What is wrong, in a few words.
     fn sentence(self) -> &'static str {
         match self {

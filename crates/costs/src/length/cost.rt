@@ -1,4 +1,4 @@
-// The cost kind of lengths.
+// The cost kind of lengths. A file of its own, as its contracts cite definitions that name the struct, whose ghost field would import them in a circle.
 ghost use Rattle.std.specs.Prelude.{◌≡◌, min};
 ghost use Rattle.costs.specs.Limits.{most};
 ghost use Rattle.costs.specs.Lengths.{lengths, stopped};
