@@ -1,7 +1,6 @@
 -- Slots that name each of the first n places.
-use Rattle.std.proofs.Common.{◌≡◌, ℕ, ◌+◌, ◌<◌, List, get_or, set, Some, Option, sym, ap, ◌∙◌, inl, inr, arith}
+use Rattle.std.proofs.Common.{◌≡◌, ℕ, ◌+◌, ◌<◌, List, get_or, set, Some, Ok, Option, sym, ap, ◌∙◌, inl, inr, arith}
 use Rattle.std.proofs.lemmas.Bool.{cases_eq}
-use Rattle.tables.specs.declared.index.Inserted.TheVariants.{At}
 use Rattle.tables.specs.Indexes.{Names, Absent, Covers, Inserts}
 use Rattle.tables.proofs.Entering.{inserts_names, inserts_keeps_names}
 use Rattle.tables.proofs.Swapping.{names_first, names_last, get_or_rewritten}
@@ -10,7 +9,7 @@ pub covers_none : (slots : List ℕ) → Covers slots 0
 covers_none slots k lt = absurd (omega arith)
 
 -- the next place is inserted
-pub covers_inserts : (h n : ℕ) (from to : List ℕ) (i : ℕ) → Inserts h n from to (At i) → Covers from n → Covers to (n + 1)
+pub covers_inserts : (h n : ℕ) (from to : List ℕ) (i : ℕ) → Inserts h n from to (Ok i) → Covers from n → Covers to (n + 1)
 covers_inserts h n from to i inserts covers k lt =
     elim (cases_eq k n) [
       | inl e ↦ (i, inserts_names h n from to i inserts ∙ ap (λ a. a + 1) (sym e))

@@ -1,8 +1,8 @@
 -- A well-kept index with more slots than places has a vacant slot.
-use Rattle.std.proofs.Common.{◌≡◌, ℕ, zero, suc, ◌+◌, ◌-◌, ◌<◌, ◌≤◌, ◌⊎◌, List, length, get_or, Some, Option, sym, ap, ◌∙◌, inl, inr, arith}
+use Rattle.std.proofs.Common.{◌≡◌, ℕ, zero, suc, ◌+◌, ◌-◌, ◌<◌, ◌≤◌, ◌⊎◌, List, length, get_or, Some, Err, Option, sym, ap, ◌∙◌, inl, inr, arith}
 use Rattle.std.proofs.lemmas.Bool.{cases_eq}
 use Rattle.tables.specs.Probes.{KeyKind}
-use Rattle.tables.specs.declared.index.Inserted.TheVariants.{Full}
+use Rattle.tables.specs.declared.index.NotEntered.TheVariants.{Full}
 use Rattle.tables.specs.Indexes.{Indexed, Inserts}
 use Rattle.tables.proofs.Renaming.{names_once}
 use Rattle.tables.proofs.Pigeonholes.{pigeonhole}
@@ -41,5 +41,5 @@ module _ (K : KeyKind) (at : ℕ → Option K.Meaning) (slots : List ℕ) (ix : 
       ]
 
   -- so a place more finds a slot
-  pub not_full_from_few : n < length slots → (h k : ℕ) (to : List ℕ) → Inserts h k slots to Full → ⊥
+  pub not_full_from_few : n < length slots → (h k : ℕ) (to : List ℕ) → Inserts h k slots to (Err Full) → ⊥
   not_full_from_few more h k to (_, taken, _) = omega (arith, few_from_taken taken)

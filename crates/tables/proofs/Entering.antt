@@ -1,9 +1,9 @@
 -- A place more in a well-kept index: the first vacant slot on the way of its key names it.
-use Rattle.std.proofs.Common.{◌≡◌, ℕ, ◌+◌, ◌<◌, List, length, get_or, set, Some, Option, sym, ap, ◌∙◌, subst, inl, inr, arith, length-set, get_or-set_other, get_or-set_same}
+use Rattle.std.proofs.Common.{◌≡◌, ℕ, ◌+◌, ◌<◌, List, length, get_or, set, Some, Ok, Err, Option, Result, sym, ap, ◌∙◌, subst, inl, inr, arith, length-set, get_or-set_other, get_or-set_same}
 use Rattle.std.proofs.lemmas.Bool.{cases_eq}
 use Rattle.tables.specs.Probes.{KeyKind, Met}
-use Rattle.tables.specs.declared.index.Inserted.{Inserted}
-use Rattle.tables.specs.declared.index.Inserted.TheVariants.{At, Full, NoEntry}
+use Rattle.tables.specs.declared.index.NotEntered.{NotEntered}
+use Rattle.tables.specs.declared.index.NotEntered.TheVariants.{Full, NoEntry}
 use Rattle.tables.specs.Indexes.{Names, Has, Absent, Indexed, Inserts, Keeps}
 use Rattle.tables.proofs.Meeting.{met_within, met_kept}
 
@@ -66,27 +66,27 @@ module _ (K : KeyKind) (at : ℕ → Option K.Meaning) (slots : List ℕ) (m : K
   }
 
 -- whatever became of the place, the index is well kept after it
-pub keeps_inserts : (K : KeyKind) (m : K.Meaning) (k : ℕ) (from to : List ℕ) (r : Inserted) → Inserts (K.hash m) k from to r → Keeps K m k from to
-keeps_inserts K m k from to (At i) (_, (j, first, vacant), e) at ix new absent =
+pub keeps_inserts : (K : KeyKind) (m : K.Meaning) (k : ℕ) (from to : List ℕ) (r : Result ℕ NotEntered) → Inserts (K.hash m) k from to r → Keeps K m k from to
+keeps_inserts K m k from to (Ok i) (_, (j, first, vacant), e) at ix new absent =
     subst (Indexed K at) (sym e) (indexed_inserted K at from m k i j ix new absent first vacant)
-keeps_inserts K m k from to Full (_, _, e) at ix new absent = subst (Indexed K at) (sym e) ix
-keeps_inserts K m k from to NoEntry (_, e) at ix new absent = subst (Indexed K at) (sym e) ix
+keeps_inserts K m k from to (Err Full) (_, _, e) at ix new absent = subst (Indexed K at) (sym e) ix
+keeps_inserts K m k from to (Err NoEntry) (_, e) at ix new absent = subst (Indexed K at) (sym e) ix
 
 -- the slot that it is inserted at is one of the slots, names it, and the others name what they named
-pub inserts_within : (h k : ℕ) (from to : List ℕ) (i : ℕ) → Inserts h k from to (At i) → i < length from
+pub inserts_within : (h k : ℕ) (from to : List ℕ) (i : ℕ) → Inserts h k from to (Ok i) → i < length from
 inserts_within h k from to i (_, (j, first, vacant), e) = met_within from h i j first
 
-pub inserts_names : (h k : ℕ) (from to : List ℕ) (i : ℕ) → Inserts h k from to (At i) → Names to i k
+pub inserts_names : (h k : ℕ) (from to : List ℕ) (i : ℕ) → Inserts h k from to (Ok i) → Names to i k
 inserts_names h k from to i (_, (j, first, vacant), e) =
     ap (λ s. get_or s i 0) e ∙ names_here from i k (met_within from h i j first) vacant
 
-pub inserts_keeps_names : (h k : ℕ) (from to : List ℕ) (i : ℕ) → Inserts h k from to (At i) → (q p : ℕ) → Names from q p → Names to q p
+pub inserts_keeps_names : (h k : ℕ) (from to : List ℕ) (i : ℕ) → Inserts h k from to (Ok i) → (q p : ℕ) → Names from q p → Names to q p
 inserts_keeps_names h k from to i (_, (j, first, vacant), e) q p names =
     ap (λ s. get_or s q 0) e ∙ names_kept from i k (met_within from h i j first) vacant q p names
 
 -- it was vacant, and the slots are as many as before
-pub inserts_vacant : (h k : ℕ) (from to : List ℕ) (i : ℕ) → Inserts h k from to (At i) → get_or from i 0 ≡ 0
+pub inserts_vacant : (h k : ℕ) (from to : List ℕ) (i : ℕ) → Inserts h k from to (Ok i) → get_or from i 0 ≡ 0
 inserts_vacant h k from to i (_, (j, first, vacant), e) = vacant
 
-pub inserts_length : (h k : ℕ) (from to : List ℕ) (i : ℕ) → Inserts h k from to (At i) → length to ≡ length from
+pub inserts_length : (h k : ℕ) (from to : List ℕ) (i : ℕ) → Inserts h k from to (Ok i) → length to ≡ length from
 inserts_length h k from to i (_, _, e) = ap length e ∙ length-set from i (k + 1)

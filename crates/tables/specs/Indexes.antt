@@ -10,17 +10,17 @@
 --     Answers at slots m r      r is a slot and the place that it names, whose key means m, or none and no slot names such a place
 --     Exact K at slots m r      r answers so if the index is well kept
 --     Opens slots h r           r is the first vacant slot on the way of the hash h, or none and no slot is vacant
---     Inserts h k from to r     the slots end as `to`: the first vacant slot on the way of h names the place k;
+--     Inserts h k from to r     the slots end as `to`: the first vacant slot on the way of h, which r is, names the place k;
 --                               or nothing is written, since no slot is vacant, or since an entry, of 16 bits, cannot name k
 --     Keeps K m k from to       where k is a place whose key means m, which no slot named yet, a well-kept index stays so
 --     Rewrites i k from to r    the slots end as `to`: the slot i, which was taken, names the place k;
 --                               or nothing is written, since i is vacant or no slot, or since an entry cannot name k
 --     Swapped at at' p q        the places p and q have exchanged their keys, and all others have theirs
 --     Lasts K                   how an index stays well kept while places change and move, and that it has room
-use Rattle.std.specs.Prelude.{◌≡◌, ℕ, ◌+◌, ◌<◌, ◌≤◌, Bool, true, false, ◌⊎◌, List, length, replicate, Some, None, Option, ◌≢◌, slice_index, slice_set}
+use Rattle.std.specs.Prelude.{◌≡◌, ℕ, ◌+◌, ◌<◌, ◌≤◌, Bool, true, false, ◌⊎◌, List, length, replicate, Some, None, Ok, Err, Option, Result, ◌≢◌, slice_index, slice_set}
 use Rattle.tables.specs.declared.index.Found.{Found}
-use Rattle.tables.specs.declared.index.Inserted.{Inserted}
-use Rattle.tables.specs.declared.index.Inserted.TheVariants as inserted
+use Rattle.tables.specs.declared.index.NotEntered.{NotEntered}
+use Rattle.tables.specs.declared.index.NotEntered.TheVariants.{Full, NoEntry}
 use Rattle.tables.specs.declared.index.Entry.{Entry}
 use Rattle.tables.specs.declared.index.Entry.TheVariants as entry
 use Rattle.tables.specs.Probes.{KeyKind, Met, way_at, on_way}
@@ -70,10 +70,10 @@ abbrev pub Opens : List ℕ → ℕ → Option ℕ → Type 0
 Opens slots h None = (i : ℕ) → i < length slots → slice_index slots i ≢ 0
 Opens slots h (Some i) = (j : ℕ) × Met slots h i j × (slice_index slots i ≡ 0)
 
-abbrev pub Inserts : ℕ → ℕ → List ℕ → List ℕ → Inserted → Type 0
-Inserts h k from to (inserted.At i) = (k < 65535) × Opens from h (Some i) × (to ≡ slice_set from i (k + 1))
-Inserts h k from to inserted.Full = (k < 65535) × Opens from h None × (to ≡ from)
-Inserts h k from to inserted.NoEntry = (65535 ≤ k) × (to ≡ from)
+abbrev pub Inserts : ℕ → ℕ → List ℕ → List ℕ → Result ℕ NotEntered → Type 0
+Inserts h k from to (Ok i) = (k < 65535) × Opens from h (Some i) × (to ≡ slice_set from i (k + 1))
+Inserts h k from to (Err Full) = (k < 65535) × Opens from h None × (to ≡ from)
+Inserts h k from to (Err NoEntry) = (65535 ≤ k) × (to ≡ from)
 
 abbrev pub Keeps : (K : KeyKind) → K.Meaning → ℕ → List ℕ → List ℕ → Type 0
 Keeps K m k from to = (at : ℕ → Option K.Meaning) → Indexed K at from → at k ≡ Some m → Absent at from m → Indexed K at to
@@ -102,7 +102,7 @@ pub record Lasts (K : KeyKind) : Type 0 where
   pub room : (at : ℕ → Option K.Meaning) (slots : List ℕ) → Indexed K at slots → (n : ℕ) → ((k : ℕ) (m : K.Meaning) → at k ≡ Some m → k < n) →
       n < length slots → (i : ℕ) × (i < length slots) × (slice_index slots i ≡ 0)
   -- the first n places stay named when the next place is inserted
-  pub covers_next : (h n : ℕ) (from to : List ℕ) (i : ℕ) → Inserts h n from to (inserted.At i) → Covers from n → Covers to (n + 1)
+  pub covers_next : (h n : ℕ) (from to : List ℕ) (i : ℕ) → Inserts h n from to (Ok i) → Covers from n → Covers to (n + 1)
   -- and when two slots exchange the places that they name
   pub covers_swapped : (slots : List ℕ) (s t p q n : ℕ) → Names slots s p → Names slots t q → Covers slots n → Covers (slice_set (slice_set slots s (q + 1)) t (p + 1)) n
   -- then a key that is absent from the slots is that of none of them

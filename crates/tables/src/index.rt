@@ -15,11 +15,9 @@ pub struct Found {
     pub slot: usize,
 }
 
-// What became of a place that was to be inserted.
+// Why a place was not inserted.
 #[derive(Clone, Copy, PartialEq, Eq, Debug)]
-pub enum Inserted {
-    // this slot names it now
-    At(usize),
+pub enum NotEntered {
     // no slot was vacant
     Full,
     // its number is too high for an entry to name it
@@ -61,9 +59,9 @@ pub fn find<K: Keys>(slots: &[u16], keys: &K, key: &K::Key) -> Option<Found>
     None
 }
 
-// Lets the first vacant slot on the key's way name the place. No other slot changes.
+// Lets the first vacant slot on the key's way name the place, and answers that slot. No other slot changes.
 #[tactic(auto, using(crate::proofs::Entering::keeps_inserts))]
-pub fn insert<K: Keys>(slots: &mut [u16], keys: &K, key: &K::Key, place: u16) -> Inserted
+pub fn insert<K: Keys>(slots: &mut [u16], keys: &K, key: &K::Key, place: u16) -> Result<usize, NotEntered>
     ensures placed { Inserts (K.Keys.kind.hash (K.Keys.means key.now)) place slots.old slots.new result }
     ensures kept { Keeps K.Keys.kind (K.Keys.means key.now) place slots.old slots.new }
 {
@@ -97,17 +95,13 @@ pub fn index_lasts<K: Keys>()
 {}
 
 // Lets the first vacant slot on the way of a hash name the place.
-fn enter(slots: &mut [u16], hash: u32, place: u16) -> Inserted
+fn enter(slots: &mut [u16], hash: u32, place: u16) -> Result<usize, NotEntered>
     ensures { Inserts hash place slots.old slots.new result }
 {
-    let Some(entry) = entry_of(place) else {
-        return Inserted::NoEntry;
-    };
-    let Some(vacant) = first_vacant(slots, hash) else {
-        return Inserted::Full;
-    };
+    let entry = entry_of(place).ok_or(NotEntered::NoEntry)?;
+    let vacant = first_vacant(slots, hash).ok_or(NotEntered::Full)?;
     slots[vacant] = entry;
-    Inserted::At(vacant)
+    Ok(vacant)
 }
 
 // The first vacant slot on the way of a hash.

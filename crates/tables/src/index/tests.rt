@@ -31,7 +31,7 @@ impl Keys for Tens<'_> {
 fn no_slots(rt: HostRuntime) {
     let keys = Tens { numbers: &[31] };
     let mut slots = [];
-    assert_eq!(rt; insert(&mut slots, &keys, &31, 0), Inserted::Full);
+    assert_eq!(rt; insert(&mut slots, &keys, &31, 0), Err(NotEntered::Full));
     assert_eq!(rt; find(&slots, &keys, &31), None);
     assert!(rt; !rewrite(&mut slots, 0, 0));
 }
@@ -40,8 +40,8 @@ fn no_slots(rt: HostRuntime) {
 fn one_slot(rt: HostRuntime) {
     let keys = Tens { numbers: &[31, 70] };
     let mut slots = [0];
-    assert_eq!(rt; insert(&mut slots, &keys, &31, 0), Inserted::At(0));
-    assert_eq!(rt; insert(&mut slots, &keys, &70, 1), Inserted::Full);
+    assert_eq!(rt; insert(&mut slots, &keys, &31, 0), Ok(0));
+    assert_eq!(rt; insert(&mut slots, &keys, &70, 1), Err(NotEntered::Full));
     assert_eq!(rt; find(&slots, &keys, &38), Some(Found { place: 0, slot: 0 }));
     assert_eq!(rt; find(&slots, &keys, &70), None);
 }
@@ -53,9 +53,9 @@ fn one_hash(rt: HostRuntime) {
         numbers: &[31, 70, 112],
     };
     let mut slots = [0, 0, 0, 0];
-    assert_eq!(rt; insert(&mut slots, &keys, &31, 0), Inserted::At(3));
-    assert_eq!(rt; insert(&mut slots, &keys, &70, 1), Inserted::At(0));
-    assert_eq!(rt; insert(&mut slots, &keys, &112, 2), Inserted::At(1));
+    assert_eq!(rt; insert(&mut slots, &keys, &31, 0), Ok(3));
+    assert_eq!(rt; insert(&mut slots, &keys, &70, 1), Ok(0));
+    assert_eq!(rt; insert(&mut slots, &keys, &112, 2), Ok(1));
     assert_eq!(rt;
         find(&slots, &keys, &119),
         Some(Found { place: 2, slot: 1 })
@@ -70,8 +70,8 @@ fn full_slots(rt: HostRuntime) {
     let mut slots = [2, 9, 65535, 1];
     assert_eq!(rt; find(&slots, &keys, &70), Some(Found { place: 1, slot: 0 }));
     assert_eq!(rt; find(&slots, &keys, &112), None);
-    assert_eq!(rt; insert(&mut slots, &keys, &112, 2), Inserted::Full);
-    assert_eq!(rt; insert(&mut slots, &keys, &112, 65535), Inserted::NoEntry);
+    assert_eq!(rt; insert(&mut slots, &keys, &112, 2), Err(NotEntered::Full));
+    assert_eq!(rt; insert(&mut slots, &keys, &112, 65535), Err(NotEntered::NoEntry));
 }
 
 #[test]
