@@ -4,7 +4,8 @@
 --     Absent at slots m         no slot names such a place
 --     Indexed K at slots        the index is well kept
 --     Covers slots n            each of the first n places is named by a slot
---     Reads at m e s            s is what the entry e is to one who looks for m: vacant, the place that has it, or another
+--     NamesOther at m e         the entry e names a place whose key does not mean m
+--     Reads at m i e r          r is the slot i, whose entry is e, and the place that it names, whose key means m, or none and e is vacant or names another
 --     Passed at slots h m j     the first j slots on the way of the hash h are taken, by places whose keys do not mean m
 --     LooksUp K at slots m r    r is the first slot on the way of m that names a place whose key means m, or none if a vacant slot or a whole turn comes first
 --     Answers at slots m r      r is a slot and the place that it names, whose key means m, or none and no slot names such a place
@@ -21,8 +22,6 @@ use Rattle.std.specs.Prelude.{◌≡◌, ℕ, ◌+◌, ◌<◌, ◌≤◌, Bool,
 use Rattle.tables.specs.declared.index.Found.{Found}
 use Rattle.tables.specs.declared.index.NotEntered.{NotEntered}
 use Rattle.tables.specs.declared.index.NotEntered.TheVariants.{Full, NoEntry}
-use Rattle.tables.specs.declared.index.Entry.{Entry}
-use Rattle.tables.specs.declared.index.Entry.TheVariants as entry
 use Rattle.tables.specs.Probes.{KeyKind, Met, way_at, on_way}
 
 abbrev pub Names : List ℕ → ℕ → ℕ → Type 0
@@ -45,13 +44,15 @@ pub record Indexed (K : KeyKind) (at : ℕ → Option K.Meaning) (slots : List �
 abbrev pub Covers : List ℕ → ℕ → Type 0
 Covers slots n = (k : ℕ) → k < n → (i : ℕ) × Names slots i k
 
-abbrev pub Reads : {M : Type 0} → (ℕ → Option M) → M → ℕ → Entry → Type 0
-Reads at m e entry.Vacant = e ≡ 0
-Reads at m e (entry.Sought k) = (e ≡ k + 1) × (at k ≡ Some m)
-Reads at m e entry.Other = (k : ℕ) × (e ≡ k + 1) × (at k ≢ Some m)
+abbrev pub NamesOther : {M : Type 0} → (ℕ → Option M) → M → ℕ → Type 0
+NamesOther at m e = (k : ℕ) × (e ≡ k + 1) × (at k ≢ Some m)
+
+abbrev pub Reads : {M : Type 0} → (ℕ → Option M) → M → ℕ → ℕ → Option Found → Type 0
+Reads at m i e None = (e ≡ 0) ⊎ NamesOther at m e
+Reads at m i e (Some f) = (f.slot ≡ i) × (e ≡ f.place + 1) × (at f.place ≡ Some m)
 
 abbrev pub Passed : {M : Type 0} → (ℕ → Option M) → List ℕ → ℕ → M → ℕ → Type 0
-Passed at slots h m j = (q : ℕ) → q < j → Reads at m (on_way slots h q) entry.Other
+Passed at slots h m j = (q : ℕ) → q < j → NamesOther at m (on_way slots h q)
 
 abbrev pub LooksUp : (K : KeyKind) → (ℕ → Option K.Meaning) → List ℕ → K.Meaning → Option Found → Type 0
 LooksUp K at slots m None =

@@ -1,9 +1,12 @@
 // A hash index over lent slots, by linear probing: an entry of 0 is vacant, and k + 1 names the place k.
 // Entries stay in their slots, so a caller may keep a slot's number.
 ghost use Rattle.std.specs.Prelude.{◌≡◌, ◌+◌, ◌-◌, ◌%◌, ◌<◌, length, replicate, Decides, MatchOption};
+ghost use Rattle.tables.specs.Probes.{Walks};
 ghost use Rattle.tables.specs.Indexes.{Reads, LooksUp, Exact, Opens, Inserts, Keeps, Rewrites, Lasts};
 
 use crate::keys::Keys;
+use std::iter::Chain;
+use std::ops::Range;
 
 #[cfg(test)]
 mod tests;
@@ -24,36 +27,18 @@ pub enum NotEntered {
     NoEntry,
 }
 
-// Where a probe is, and how many slots of its turn are left, this one included.
-#[derive(Clone, Copy)]
-struct Probe {
-    slot: usize,
-    left: usize,
-}
-
-// What an entry is to one who looks for a key.
-#[derive(Clone, Copy)]
-enum Entry {
-    Vacant,
-    Sought(u16),
-    Other,
-}
-
 // The slot that names the place with the key, and that place.
 // Whatever the slots hold, it is the first such slot on the key's way, unless a vacant one comes before.
 pub fn find<K: Keys>(slots: &[u16], keys: &K, key: &K::Key) -> Option<Found>
     ensures first { LooksUp K.Keys.kind (K.Keys.at keys.now) slots.now (K.Keys.means key.now) result }
     ensures exact { Exact K.Keys.kind (K.Keys.at keys.now) slots.now (K.Keys.means key.now) result }
 {
-    let mut probe = start(keys.digest(key), slots.len());
-    while probe.left > 0 {
-        match read_entry(slots[probe.slot], keys, key) {
-            Entry::Vacant => return None,
-            Entry::Sought(place) => return Some(Found {
-                place,
-                slot: probe.slot,
-            }),
-            Entry::Other => probe = advance(probe, slots.len()),
+    for slot in way(keys.digest(key), slots.len()) {
+        if is_vacant(slots[slot]) {
+            return None;
+        }
+        if let Some(found) = read_slot(slot, slots[slot], keys, key) {
+            return Some(found);
         }
     }
     None
@@ -61,7 +46,12 @@ pub fn find<K: Keys>(slots: &[u16], keys: &K, key: &K::Key) -> Option<Found>
 
 // Lets the first vacant slot on the key's way name the place, and answers that slot. No other slot changes.
 #[tactic(auto, using(crate::proofs::Entering::keeps_inserts))]
-pub fn insert<K: Keys>(slots: &mut [u16], keys: &K, key: &K::Key, place: u16) -> Result<usize, NotEntered>
+pub fn insert<K: Keys>(
+    slots: &mut [u16],
+    keys: &K,
+    key: &K::Key,
+    place: u16,
+) -> Result<usize, NotEntered>
     ensures placed { Inserts (K.Keys.kind.hash (K.Keys.means key.now)) place slots.old slots.new result }
     ensures kept { Keeps K.Keys.kind (K.Keys.means key.now) place slots.old slots.new }
 {
@@ -108,49 +98,23 @@ fn enter(slots: &mut [u16], hash: u32, place: u16) -> Result<usize, NotEntered>
 fn first_vacant(slots: &[u16], hash: u32) -> Option<usize>
     ensures { Opens slots.now hash result }
 {
-    let mut probe = start(hash, slots.len());
-    while probe.left > 0 {
-        if is_vacant(slots[probe.slot]) {
-            return Some(probe.slot);
-        }
-        probe = advance(probe, slots.len());
-    }
-    None
+    way(hash, slots.len()).find(|slot| is_vacant(slots[*slot]))
 }
 
-// The probe at the start of the way of a hash, with a whole turn left.
-fn start(hash: u32, len: usize) -> Probe
-    ensures turn { result.left ≡ len }
-    ensures first { 0 < len → result.slot ≡ hash % len }
+// The slots on the way of a hash, each once: from its own slot to the last, and then from the first on.
+fn way(hash: u32, len: usize) -> Chain<Range<usize>, Range<usize>>
+    ensures { Walks len hash result }
 {
-    let slot = if len == 0 { 0 } else { hash as usize % len };
-    Probe { slot, left: len }
+    let own = hash as usize % len.max(1);
+    (own..len).chain(0..own)
 }
 
-// The probe one slot on. The first slot comes after the last.
-fn advance(probe: Probe, len: usize) -> Probe
-    requires { (0 < probe.left) × (probe.slot < len) }
-    ensures turn { result.left ≡ probe.left - 1 }
-    ensures next { probe.slot + 1 < len → result.slot ≡ probe.slot + 1 }
-    ensures wraps { probe.slot + 1 ≡ len → result.slot ≡ 0 }
+// The slot with the place that its entry names, if that place has the key.
+fn read_slot<K: Keys>(slot: usize, entry: u16, keys: &K, key: &K::Key) -> Option<Found>
+    ensures { Reads (K.Keys.at keys.now) (K.Keys.means key.now) slot entry result }
 {
-    let next = probe.slot + 1;
-    let slot = if next == len { 0 } else { next };
-    Probe {
-        slot,
-        left: probe.left - 1,
-    }
-}
-
-// Whether an entry is vacant, names the place that has the key, or names another.
-fn read_entry<K: Keys>(entry: u16, keys: &K, key: &K::Key) -> Entry
-    ensures { Reads (K.Keys.at keys.now) (K.Keys.means key.now) entry result }
-{
-    match named_place(entry) {
-        None => Entry::Vacant,
-        Some(place) if keys.holds(place, key) => Entry::Sought(place),
-        Some(_) => Entry::Other,
-    }
+    let place = named_place(entry)?;
+    keys.holds(place, key).then_some(Found { place, slot })
 }
 
 fn is_vacant(entry: u16) -> bool
@@ -163,20 +127,12 @@ fn is_vacant(entry: u16) -> bool
 fn named_place(entry: u16) -> Option<u16>
     ensures { MatchOption result (entry ≡ 0) (λ k. entry ≡ k + 1) }
 {
-    if is_vacant(entry) {
-        None
-    } else {
-        Some(entry - 1)
-    }
+    entry.checked_sub(1)
 }
 
 // The entry that names a place; none for the highest number.
 fn entry_of(place: u16) -> Option<u16>
     ensures { MatchOption result (place ≡ 65535) (λ e. (place < 65535) × (e ≡ place + 1)) }
 {
-    if place < u16::MAX {
-        Some(place + 1)
-    } else {
-        None
-    }
+    place.checked_add(1)
 }

@@ -71,7 +71,10 @@ fn full_slots(rt: HostRuntime) {
     assert_eq!(rt; find(&slots, &keys, &70), Some(Found { place: 1, slot: 0 }));
     assert_eq!(rt; find(&slots, &keys, &112), None);
     assert_eq!(rt; insert(&mut slots, &keys, &112, 2), Err(NotEntered::Full));
-    assert_eq!(rt; insert(&mut slots, &keys, &112, 65535), Err(NotEntered::NoEntry));
+    assert_eq!(rt;
+        insert(&mut slots, &keys, &112, 65535),
+        Err(NotEntered::NoEntry)
+    );
 }
 
 #[test]

@@ -1,33 +1,56 @@
-use Rattle.std.proofs.Common.{◌≡◌, ◌+◌, length, None, inl, inr, arith, below_more}
-use Rattle.tables.specs.declared.index.Entry.TheVariants.{Other}
-use Rattle.tables.specs.Probes.{on_way}
-use Rattle.tables.specs.Indexes.{Reads, LooksUp}
-use Rattle.tables.proofs.Probing.{stands_more, stands_within, at_way}
+use Rattle.std.proofs.Common.{◌≡◌, ℕ, List, [], ◌∷◌, ◌++◌, length, get_or, None, Option, sym, ap, ◌∙◌, subst, inl, inr, refl, rules, below_more}
+use Rattle.std.proofs.lemmas.List.{length_push}
+use Rattle.std.proofs.lemmas.Bool.{false≢true}
+use Rattle.tables.specs.Probes.{way_at, on_way}
+use Rattle.tables.specs.Indexes.{NamesOther, Passed, LooksUp}
+use Rattle.tables.proofs.Probing.{walks_same, walk_turn, walk_end}
 use Rattle.tables.proofs.Finding.{absent_from_none}
 use Rattle.tables.proofs.index.find.Goals as goal
 
-pub returns-in-Vacant : goal.returns-in-Vacant
-returns-in-Vacant g c =
+-- one slot more is passed, which is taken by a place that does not have the key
+other_passed : {M : Type 0} (at : ℕ → Option M) (m : M) (slots : List ℕ) (h : ℕ) (xs : List ℕ) (i : ℕ) → i ≡ way_at (length slots) h (length xs) →
+    Passed at slots h m (length xs) → NamesOther at m (get_or slots i 0) → Passed at slots h m (length (xs ++ i ∷ []))
+other_passed at m slots h xs i e passed other =
+    subst (Passed at slots h m) (sym (length_push xs i)) (below_more (λ q. NamesOther at m (on_way slots h q)) (length xs) passed (subst (λ k. NamesOther at m (get_or slots k 0)) e other))
+
+pub bounds-slots-slot : goal.bounds-slots-slot
+bounds-slots-slot g c =
+    (walk_turn (walks_same c.way-slot-items.ensures c.digest.ensures c.into_iter-slot-iterator.ensures.into_iter_gives) c.loop-slot.yielded _ c.loop-slot.yielded_by _ _ _ c.in-Some.is c.next.ensures.steps).1
+
+pub offset_bounds-slots-slot : goal.offset_bounds-slots-slot
+offset_bounds-slots-slot g c =
+    let turn = walk_turn (walks_same c.way-slot-items.ensures c.digest.ensures c.into_iter-slot-iterator.ensures.into_iter_gives) c.loop-slot.yielded _ c.loop-slot.yielded_by _ _ _ c.in-Some.is c.next.ensures.steps in
+    search rules
+
+pub returns-then-is_vacant : goal.returns-then-is_vacant
+returns-then-is_vacant g c =
     let K = g.K.Keys.kind in
     let at = g.K.Keys.at c.args.keys.now in
     let m = g.K.Keys.means c.args.key.now in
     let slots = c.args.slots.now in
-    let (j, stands, passed) = c.loop-probe.invariant.1 in
-    let vacant = at_way (λ e. e ≡ 0) slots stands c.loop-probe-test.true c.in-Vacant.ensures in
-    let first : LooksUp K at slots m None = (j, passed, inr vacant) in
+    let turn = walk_turn (walks_same c.way-slot-items.ensures c.digest.ensures c.into_iter-slot-iterator.ensures.into_iter_gives) c.loop-slot.yielded _ c.loop-slot.yielded_by _ _ _ c.in-Some.is c.next.ensures.steps in
+    let first : LooksUp K at slots m None = (length c.loop-slot.yielded, c.loop-slot.invariant.passed, inr (subst (λ i. get_or slots i 0 ≡ 0) turn.2 (c.if-is_vacant.ensures.0 refl))) in
     record { first = first; exact = λ ix. absent_from_none K at slots m ix first }
 
-pub loop-probe-preserved : goal.loop-probe-preserved
-loop-probe-preserved g c =
+pub returns-in-Some-read_slot : goal.returns-in-Some-read_slot
+returns-in-Some-read_slot g c =
+    let turn = walk_turn (walks_same c.way-slot-items.ensures c.digest.ensures c.into_iter-slot-iterator.ensures.into_iter_gives) c.loop-slot.yielded _ c.loop-slot.yielded_by _ _ _ c.in-Some.is c.next.ensures.steps in
+    let (here, names, has) = c.in-Some-read_slot.ensures in
+    let named = ap (λ i. get_or c.args.slots.now i 0) here ∙ names in
+    record { first = (length c.loop-slot.yielded, c.loop-slot.invariant.passed, turn.0, here ∙ turn.2, named, has); exact = λ _. (named, has) }
+
+pub loop-slot-preserved : goal.loop-slot-preserved
+loop-slot-preserved g c =
     let K = g.K.Keys.kind in
     let at = g.K.Keys.at c.args.keys.now in
     let m = g.K.Keys.means c.args.key.now in
     let slots = c.args.slots.now in
-    let (j, stands, passed) = c.loop-probe.invariant.1 in
-    let left = c.loop-probe-test.true in
-    let other = at_way (λ e. Reads at m e Other) slots stands left c.in-Other.ensures in
-    let on = stands_more stands left c.advance-probe.ensures.turn c.advance-probe.ensures.next c.advance-probe.ensures.wraps in
-    (stands_within on, (j + 1, on, below_more (λ q. Reads at m (on_way slots (K.hash m) q) Other) j passed other))
+    let turn = walk_turn (walks_same c.way-slot-items.ensures c.digest.ensures c.into_iter-slot-iterator.ensures.into_iter_gives) c.loop-slot.yielded _ c.loop-slot.yielded_by _ _ _ c.in-Some.is c.next.ensures.steps in
+    record {
+      can = search rules;
+      ends = search rules;
+      passed = other_passed at m slots _ c.loop-slot.yielded _ turn.2 c.loop-slot.invariant.passed (elim c.in_default.ensures [ inl vacant ↦ absurd (false≢true (c.if-is_vacant.ensures.1 vacant)) | inr other ↦ other ]);
+    }
 
 pub returns : goal.returns
 returns g c =
@@ -35,7 +58,6 @@ returns g c =
     let at = g.K.Keys.at c.args.keys.now in
     let m = g.K.Keys.means c.args.key.now in
     let slots = c.args.slots.now in
-    let (j, stands, passed) = c.loop-probe.invariant.1 in
-    let all : j ≡ length slots = omega (arith, stands.turn) in
-    let first : LooksUp K at slots m None = (j, passed, inl all) in
+    let all = walk_end (walks_same c.way-slot-items.ensures c.digest.ensures c.into_iter-slot-iterator.ensures.into_iter_gives) c.loop-slot.yielded _ c.loop-slot.yielded_by _ _ c.in-None.is c.next.ensures.steps in
+    let first : LooksUp K at slots m None = (length c.loop-slot.yielded, c.loop-slot.invariant.passed, inl all) in
     record { first = first; exact = λ ix. absent_from_none K at slots m ix first }
