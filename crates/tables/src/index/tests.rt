@@ -18,12 +18,12 @@ impl Keys for Tens<'_> {
     ghost at = { λ s k. (if nat_lt k (length s.numbers.now) then Some (slice_index s.numbers.now k / 10) else None) };
 
     fn digest(&self, key: &u16) -> u32 {
-        (*key / 10 % 4) as u32
+        u32::from(*key / 10 % 4)
     }
 
     fn holds(&self, place: u16, key: &u16) -> bool {
-        let place = place as usize;
-        place < self.numbers.len() && self.numbers[place] / 10 == *key / 10
+        let number = self.numbers.get(usize::from(place));
+        number.is_some_and(|n| *n / 10 == *key / 10)
     }
 }
 
