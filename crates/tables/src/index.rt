@@ -58,7 +58,8 @@ pub fn insert<K: Keys>(
     enter(slots, keys.digest(key), place)
 }
 
-// Lets a slot that names a place name another one, and says whether it did. No other slot changes.
+// Lets a slot that names a place name another one, and says whether it did, by a bool as std's `insert` of a set does.
+// No other slot changes.
 pub fn rewrite(slots: &mut [u16], slot: usize, place: u16) -> bool
     ensures { Rewrites slot place slots.old slots.new result }
 {
@@ -105,6 +106,7 @@ fn first_vacant(slots: &[u16], hash: u32) -> Option<usize>
 fn way(hash: u32, len: usize) -> Chain<Range<usize>, Range<usize>>
     ensures { Walks len hash result }
 {
+    // a cast, since `usize` has no `From<u32>`
     let own = hash as usize % len.max(1);
     (own..len).chain(0..own)
 }

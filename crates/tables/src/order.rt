@@ -4,6 +4,7 @@ ghost use Rattle.tables.specs.Orders.{Order, numbers};
 
 use std::cmp::Ordering;
 
+// A trait of its own, and not `Ord`: two elements that compare as equal may differ, which the laws of `Ord` rule out.
 pub trait Ranked: Copy {
     ghost order: { Order Self };
 
