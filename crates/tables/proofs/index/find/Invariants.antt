@@ -1,4 +1,5 @@
 use Rattle.std.proofs.Common.{length}
+use Rattle.tables.specs.Probes.{Walks}
 use Rattle.tables.specs.Indexes.{Passed}
 use Rattle.tables.proofs.index.find.Given as goal
 
@@ -8,5 +9,6 @@ invariant-loop-slot g l =
     record {
       can : (goal.iterator-loop-slot g).can_next l.slot-iterator;
       ends : (goal.iterator-loop-slot g).is_finite l.slot-iterator;
+      walks : Walks (length l.slots) (g.K.Keys.kind.hash (g.K.Keys.means l.key)) l.initial.slot-iterator;
       passed : Passed (g.K.Keys.at l.keys) l.slots (g.K.Keys.kind.hash (g.K.Keys.means l.key)) (g.K.Keys.means l.key) (length l.yielded);
     }
