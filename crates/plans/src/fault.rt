@@ -2,7 +2,7 @@
 ghost use Rattle.std.specs.Prelude.{◌≡◌, ◌+◌, ◌^◌, ◌<◌};
 
 // What is wrong with the command that decides, in the order of the refusals' numbers, 4 to 10.
-#[derive(Clone, Copy)]
+#[derive(Clone, Copy, PartialEq, Eq, Debug)]
 pub enum Fault {
     UnknownCommand,
     CutShort,
@@ -14,7 +14,7 @@ pub enum Fault {
 }
 
 // A fault, and its offset in bytes.
-#[derive(Clone, Copy)]
+#[derive(Clone, Copy, PartialEq, Eq, Debug)]
 pub struct Stop {
     pub fault: Fault,
     pub at: usize,
@@ -41,6 +41,15 @@ pub(crate) const AFTER_END: Stop = Stop {
     fault: Fault::AfterEnd,
     at: 1,
 };
+
+// A fault at the command that is read.
+impl From<Fault> for Stop {
+    ghost from_gives = { λ f e. e ≡ record { fault = f; at = 0 } };
+
+    fn from(fault: Fault) -> Stop {
+        Stop { fault, at: 0 }
+    }
+}
 
 impl Stop {
     // The same stop, where so many bytes come before those that its offset is counted in.

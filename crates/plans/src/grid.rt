@@ -1,5 +1,5 @@
 // A grid as a map: a record and the memory of its points.
-ghost use Rattle.std.specs.Prelude.{◌≡◌, ◌+◌, ◌-◌, ◌*◌, ◌/◌, ◌%◌, ◌<◌, max, not, ◌&&◌, take};
+ghost use Rattle.std.specs.Prelude.{◌≡◌, ◌+◌, ◌-◌, ◌*◌, ◌/◌, ◌%◌, ◌<◌, not, ◌&&◌, take};
 ghost use Rattle.kinds.specs.Crossings.{other_way};
 ghost use Rattle.plans.specs.Grids.{sized, points_of, Inside, place, over, eastward, lane_to, lane_at, grid_site, terrain_of};
 ghost use Rattle.plans.specs.GridsLemmas.{lawful_lanes, lawful_estimates};
@@ -10,6 +10,9 @@ use crate::ray::forwards;
 use kinds::crossing::Crossing;
 use kinds::lane::Lane;
 use kinds::map::Map;
+
+// Where the bytes that say whether a point is blocked begin in a grid's memory.
+pub const BLOCKED: usize = 4_096;
 
 // Byte p of the memory is the risk of the point p, and byte 4096 + p is not 0 if it is blocked.
 // A point whose bytes lie past the end of the memory is blocked.
@@ -68,13 +71,6 @@ impl Spot {
     }
 }
 
-// The larger of two risks.
-fn larger(a: u8, b: u8) -> u8
-    ensures { result ≡ max a b }
-{
-    if a < b { b } else { a }
-}
-
 // Whether the lane from the spot to its east crosses the ray of the post.
 // The ray goes north from the middle of the square north-east of the post's point.
 fn is_over(post: Post, spot: Spot) -> bool
@@ -128,16 +124,22 @@ impl Grid {
         }
     }
 
+    // The posts that count.
+    pub(crate) fn standing(&self) -> &[Post]
+        ensures { result.now ≡ take self.now.count self.now.posts }
+    {
+        &self.posts[..usize::from(self.count.min(7))]
+    }
+
     // What the lane from the spot to its east crosses: the first ray that it crosses, forwards.
     fn eastward(&self, spot: Spot) -> Crossing
         ensures { result ≡ eastward 1 (take self.now.count self.now.posts) spot.column spot.row }
     {
-        for i in 0..7u8 {
-            if i < self.count && is_over(self.posts[i as usize], spot) {
-                return forwards(i + 1);
-            }
+        let crossed = self.standing().iter().position(|post| is_over(*post, spot));
+        match crossed {
+            Some(place) => forwards(place as u8 + 1),
+            None => Crossing::None,
         }
-        Crossing::None
     }
 
     // What the lane from the spot to its west crosses: the same, backwards.
@@ -154,7 +156,7 @@ impl<B: Memory> GridMap<B> {
     fn is_blocked(&self, spot: Spot) -> bool
         ensures { result ≡ (terrain_of B.Memory.bytes self.now).blocked spot.column spot.row }
     {
-        let at = 4096 + usize::from(self.grid.point_at(spot));
+        let at = BLOCKED + usize::from(self.grid.point_at(spot));
         at >= self.memory.size() || self.memory.byte(at) != 0
     }
 
@@ -176,7 +178,7 @@ impl<B: Memory> GridMap<B> {
     fn lane_to(&self, from: Spot, to: Spot, crossing: Crossing) -> Lane
         ensures { result ≡ lane_to (terrain_of B.Memory.bytes self.now) from.column from.row to.column to.row crossing }
     {
-        let risk = larger(self.risk_at(from), self.risk_at(to));
+        let risk = self.risk_at(from).max(self.risk_at(to));
         Lane {
             to: self.grid.point_at(to),
             length: self.grid.spacing,

@@ -9,13 +9,11 @@ ghost use Rattle.plans.specs.Grids.{place};
 ghost use Rattle.plans.specs.GridSteps.{Squared, Taken, PostJudged, PostAdded, Holds, Stepped, Run};
 
 use crate::fault::{AFTER_END, CUT_SHORT, Fault, OUT_OF_RANGE, Stop, UNKNOWN_COMMAND};
+use crate::grid::BLOCKED;
 use crate::plan::{Grid, Post};
 
 // What the record holds where no post is.
 const NOWHERE: Post = Post { column: 0, row: 0 };
-
-// Where the bytes that say whether a point is blocked begin.
-const BLOCKED: usize = 4096;
 
 impl Post {
     // Takes the post's column and row.
@@ -43,12 +41,7 @@ impl Grid {
         ensures yes { result ≡ true → Taken self.now column }
         ensures no { result ≡ false → Taken self.now column → ⊥ }
     {
-        for i in 0..self.count {
-            if self.posts[i as usize].column == column {
-                return true;
-            }
-        }
-        false
+        self.standing().iter().any(|post| post.column == column)
     }
 
     // Whether no post can be added, since there are seven.

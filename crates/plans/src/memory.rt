@@ -23,6 +23,6 @@ impl Memory for &[u8] {
     }
 
     fn byte(&self, at: usize) -> u8 {
-        if at < self.len() { self[at] } else { 0 }
+        self.get(at).copied().unwrap_or(0)
     }
 }

@@ -1,14 +1,14 @@
 // What reading a plan answers: a record that borrows nothing. The rest of the plan lies in the lent memory.
 
 // A post, in the middle of the square whose south-west corner is this column and row.
-#[derive(Clone, Copy)]
+#[derive(Clone, Copy, PartialEq, Eq, Debug)]
 pub struct Post {
     pub column: u8,
     pub row: u8,
 }
 
 // A grid: its sizes, its spacing in centimetres, and its posts in the order read.
-#[derive(Clone, Copy)]
+#[derive(Clone, Copy, PartialEq, Eq, Debug)]
 pub struct Grid {
     pub width: u8,
     pub height: u8,
@@ -18,13 +18,13 @@ pub struct Grid {
 }
 
 // A roadmap: how many points and lanes it has.
-#[derive(Clone, Copy)]
+#[derive(Clone, Copy, PartialEq, Eq, Debug)]
 pub struct Road {
     pub points: u16,
     pub lanes: u16,
 }
 
-#[derive(Clone, Copy)]
+#[derive(Clone, Copy, PartialEq, Eq, Debug)]
 pub enum Plan {
     Grid(Grid),
     Road(Road),

@@ -79,7 +79,7 @@ impl<B: Memory> RoadMap<B> {
         requires { at < 1000000 }
         ensures { result ≡ two_at (B.Memory.bytes self.now.memory) at }
     {
-        256 * u16::from(self.memory.byte(at)) + u16::from(self.memory.byte(at + 1))
+        u16::from_be_bytes([self.memory.byte(at), self.memory.byte(at + 1)])
     }
 
     // The a-th lane command.

@@ -34,7 +34,7 @@ impl Keys for Surveys<'_> {
 pub(crate) fn survey_place(point: u16) -> usize
     ensures { result ≡ survey_place point }
 {
-    8192 + 4 * point as usize
+    8192 + 4 * usize::from(point)
 }
 
 // The number that four bytes spell, high byte first.
