@@ -1,8 +1,8 @@
 -- Good commands at the front of the bytes: one more of them, and how long they are.
-use Rattle.std.proofs.Common.{◌≡◌, ℕ, ◌+◌, List, [], ◌∷◌, ◌++◌, length, sym, ap, ◌∙◌, subst, append_assoc}
+use Rattle.std.proofs.Common.{◌≡◌, ℕ, ◌+◌, List, [], ◌∷◌, ◌++◌, length, Some, Ok, Option, sym, ap, ◌∙◌, subst, append_assoc, Bor}
 use Rattle.std.proofs.lemmas.List.{append-nil, length-append}
 use Rattle.plans.specs.Plans.{Head, Command, spell, spell_all, Good, AllGood}
-use Rattle.plans.specs.Steps.{Begins}
+use Rattle.plans.specs.Steps.{Begins, Goes, Stepped}
 
 -- good after those before, then good after all of them
 all_good_push : (h : Head) (before cs : List Command) (x : Command) → AllGood h before cs → Good h (before ++ cs) x → AllGood h before (cs ++ (x ∷ []))
@@ -24,3 +24,8 @@ begins_push h bytes cs left x next b e g = record {
 
 pub length_begins : (h : Head) (bytes : List ℕ) (cs : List Command) (left : List ℕ) → Begins h bytes cs left → length bytes ≡ length (spell_all cs) + length left
 length_begins h bytes cs left b = ap length b.spelled ∙ length-append (spell_all cs) left
+
+-- what one step says where it answered what is left
+pub goes_at_some : (h : Head) (before after : List Command → Type 0) (left : List ℕ) (o : Option (Bor (List ℕ))) (next : Bor (List ℕ)) (cs : List Command)
+    → o ≡ Some next → Stepped h before after left (Ok o) → before cs → Goes h after cs left next.now
+goes_at_some h before after left o next cs e s b = (subst (λ (p : Option (Bor (List ℕ))). Stepped h before after left (Ok p)) e s).1 cs b

@@ -1,23 +1,15 @@
 -- What is wrong with a command of a grid, said of the bytes that it stands in front of.
-use Rattle.std.proofs.Common.{◌≡◌, ℕ, ◌<◌, List, [], ◌∷◌, ◌++◌, length, refl, inl, inr, arith}
+use Rattle.std.proofs.Common.{◌≡◌, ℕ, List, ◌++◌, refl, inl, inr, arith}
 use Rattle.plans.specs.declared.plan.Grid.{Grid}
 use Rattle.plans.specs.declared.fault.Fault.{Fault}
 use Rattle.plans.specs.declared.fault.Fault.TheVariants.{UnknownCommand, CutShort, OutOfRange, GivenTwice, BadEnds, TooMany, AfterEnd}
-use Rattle.plans.specs.Plans.{Head, Command, post, Letter, spell, Belongs, InRange}
+use Rattle.plans.specs.Plans.{Head, Command, post, spell, Belongs, InRange}
 use Rattle.plans.specs.Plans.{Fault as Faulty}
 use Rattle.plans.specs.Faults.{fault_number}
 use Rattle.plans.specs.GridPlans.{head_of}
 use Rattle.plans.specs.Holdings.{Placed}
 use Rattle.plans.specs.GridSteps.{PostFault}
 use Rattle.plans.proofs.GridPosts.{posted_from_taken, fresh_from_free}
-
--- nothing stands there
-pub fault_none : (h : Head) (cs : List Command) (xs : List ℕ) → xs ≡ [] → Faulty h cs xs 5 0
-fault_none h cs xs e = inl (e, refl, refl)
-
--- fewer bytes follow the letter than its operands take
-pub fault_short : (h : Head) (cs : List Command) (b w : ℕ) (xs : List ℕ) → Letter h b w → length xs < w → Faulty h cs (b ∷ xs) 5 0
-fault_short h cs b w xs a m = inr (inr (inr (inl (b, xs, w, refl, a, m, refl, refl))))
 
 -- an operand is out of range
 pub fault_range : (h : Head) (cs : List Command) (c : Command) (left next : List ℕ) → left ≡ spell c ++ next → Belongs h c → (InRange h c → ⊥) → Faulty h cs left 6 0

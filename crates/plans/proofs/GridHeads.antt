@@ -1,10 +1,13 @@
 -- The opening command of a grid before the others: an accepted plan, and a refused one.
-use Rattle.std.proofs.Common.{◌≡◌, ℕ, ◌+◌, ◌*◌, ◌/◌, ◌%◌, ◌<◌, ◌≤◌, List, [], ◌∷◌, ◌++◌, length, get_or, sym, refl, ap, ◌∙◌, subst, inl, inr, arith}
+use Rattle.std.proofs.Common.{◌≡◌, ℕ, ◌+◌, ◌*◌, ◌/◌, ◌%◌, ◌<◌, ◌≤◌, true, false, List, [], ◌∷◌, ◌++◌, length, get_or, sym, refl, ap, ◌∙◌, subst, inl, inr, arith}
+use Rattle.std.proofs.lemmas.Bool.Decides.{nat_tests}
 use Rattle.plans.specs.declared.plan.Grid.{Grid}
 use Rattle.plans.specs.Plans.{Head, grid, spell_head, spell_all, HeadInRange, AllGood, Reads, refused}
 use Rattle.plans.specs.GridPlans.{head_of, Accepts}
-use Rattle.plans.specs.GridSteps.{Ends}
-use Rattle.plans.specs.Steps.{Fails}
+use Rattle.plans.specs.GridSteps.{Holds}
+use Rattle.plans.specs.Steps.{Ends, Fails}
+use Rattle.plans.specs.Grids.{sized}
+use Rattle.plans.specs.Places.{sized_parts}
 use Rattle.plans.proofs.Fronts.{rest, front}
 use Rattle.plans.proofs.GridMemory.{tells_from_holds}
 
@@ -18,8 +21,15 @@ spelled_grid xs s l e low =
     ∙ (ap (λ b. 71 ∷ (get_or xs 0 0 ∷ (get_or xs 1 0 ∷ (b ∷ (get_or xs 3 0 ∷ rest 4 xs))))) high_is
     ∙ ap (λ b. 71 ∷ (get_or xs 0 0 ∷ (get_or xs 1 0 ∷ (s / 256 ∷ (b ∷ rest 4 xs))))) low_is)
 
+-- the test of the sizes and the spacing
+pub head_from_sized : (w h s : ℕ) → sized w h s ≡ true → HeadInRange (grid w h s)
+head_from_sized w h s e = let z = sized_parts w h s e in (z.wide, z.narrow, z.high, z.low, z.long, z.short)
+
+pub sized_from_head : (w h s : ℕ) → sized w h s ≡ false → HeadInRange (grid w h s) → ⊥
+sized_from_head w h s e (wide, narrow, high, low, long, short) = grind (arith, nat_tests)
+
 -- good commands up to the end command: the plan is accepted
-pub accepts_from_ends : (bytes xs : List ℕ) (h : Head) (g : Grid) (m : List ℕ) → bytes ≡ spell_head h ++ xs → HeadInRange h → head_of g ≡ h → Ends h xs g m → Accepts bytes g m
+pub accepts_from_ends : (bytes xs : List ℕ) (h : Head) (g : Grid) (m : List ℕ) → bytes ≡ spell_head h ++ xs → HeadInRange h → head_of g ≡ h → Ends h xs (λ cs. Holds cs g m) → Accepts bytes g m
 accepts_from_ends bytes xs h g m e range same ends =
     let good : AllGood (head_of g) [] ends.commands = subst (λ (k : Head). AllGood k [] ends.commands) (sym same) ends.begins.good in
     let size : HeadInRange (head_of g) = subst (λ (k : Head). HeadInRange k) (sym same) range in

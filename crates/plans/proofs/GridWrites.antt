@@ -1,12 +1,12 @@
 -- One more command of a grid: the record and the memory hold what the longer list says.
-use Rattle.std.proofs.Common.{◌≡◌, ℕ, ◌+◌, ◌*◌, List, [], ◌∷◌, ◌++◌, set, Some, Ok, Option, sym, refl, ap, ◌∙◌, subst, Bor}
+use Rattle.std.proofs.Common.{◌≡◌, ℕ, ◌+◌, ◌*◌, List, [], ◌∷◌, ◌++◌, set, sym, refl, ap, ◌∙◌}
 use Rattle.plans.specs.declared.plan.Grid.{Grid}
 use Rattle.plans.specs.Plans.{Command, post, block, weigh}
 use Rattle.plans.specs.GridPlans.{head_of}
 use Rattle.plans.specs.Holdings.{blank}
 use Rattle.plans.specs.Grids.{place}
 use Rattle.plans.specs.Holdings.{Placed}
-use Rattle.plans.specs.GridSteps.{write, written, Holds, Takes, Stepped}
+use Rattle.plans.specs.GridSteps.{write, written, Holds}
 use Rattle.plans.proofs.GridPosts.{placed_same}
 
 written-push : (w : ℕ) (m : List ℕ) (cs : List Command) (x : Command) → written w m (cs ++ (x ∷ [])) ≡ write w (written w m cs) x
@@ -17,10 +17,10 @@ same_width : (g g' : Grid) → head_of g ≡ head_of g' → g.width ≡ g'.width
 same_width g g' e = cc
 
 -- a post writes nothing to the memory
-pub holds_post : (cs : List Command) (g g' : Grid) (m : List ℕ) (c r : ℕ) → head_of g' ≡ head_of g → Holds cs g m → Placed (cs ++ (post c r ∷ [])) g' → Holds (cs ++ (post c r ∷ [])) g' m
-holds_post cs g g' m c r e h placed = record {
+pub holds_post : (cs : List Command) (g g' : Grid) (m m' : List ℕ) (c r : ℕ) → head_of g' ≡ head_of g → m' ≡ m → Holds cs g m → Placed (cs ++ (post c r ∷ [])) g' → Holds (cs ++ (post c r ∷ [])) g' m'
+holds_post cs g g' m m' c r e kept h placed = record {
   posted = placed;
-  wrote = h.wrote ∙ (sym (written-push g.width blank cs (post c r)) ∙ ap (λ w. written w blank (cs ++ (post c r ∷ []))) (sym (same_width g' g e)));
+  wrote = kept ∙ h.wrote ∙ (sym (written-push g.width blank cs (post c r)) ∙ ap (λ w. written w blank (cs ++ (post c r ∷ []))) (sym (same_width g' g e)));
 }
 
 -- a blocked point
@@ -36,9 +36,3 @@ holds_weigh cs g m c r k i e h = record {
   posted = placed_same cs (weigh c r k) g refl refl h.posted;
   wrote = ap (λ j. set m j k) e ∙ (ap (λ ys. set ys (r * g.width + c) k) h.wrote ∙ sym (written-push g.width blank cs (weigh c r k)));
 }
-
--- what one step says where it answered what is left
-pub takes_at_some : {g g' : Grid} {m left m' : List ℕ} {o : Option (Bor (List ℕ))} {next : Bor (List ℕ)} {cs : List Command}
-    → o ≡ Some next → Stepped g m left g' m' (Ok o) → Holds cs g m → Takes cs left next.now g g' m'
-takes_at_some {g} {g'} {m} {left} {m'} {o} {next} {cs} e s h =
-    (subst (λ (p : Option (Bor (List ℕ))). Stepped g m left g' m' (Ok p)) e s).1 cs h

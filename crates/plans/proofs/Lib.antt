@@ -10,9 +10,10 @@ pub mod GridPosts
 pub mod GridTellings
 pub mod GridWrites
 pub mod Judging
+pub mod Mapped
 pub mod Openings
 pub mod RoadCommands
-pub mod RoadFaults
+pub mod Faults
 pub mod ByteNumbers
 pub mod RoadHoldings
 pub mod RoadImages

@@ -6,18 +6,15 @@
 --     PostAdded g c r g' j     it was added, to commands after which it is good, or j has its fault
 --     written w m cs           the memory m after the commands wrote to it
 --     Holds cs g m             the record and the memory are as the commands wrote them
---     Takes, Stepped           what reading one command leaves and answers
---     Ends, Run                what reading all of them leaves and answers
-use Rattle.std.specs.Prelude.{◌≡◌, ℕ, ◌+◌, ◌<◌, ◌≤◌, List, [], ◌∷◌, ◌++◌, length, Some, None, Ok, Err, Option, Result, slice_index_or, slice_set}
+--     GridRead                 what reading one command leaves and answers
+use Rattle.std.specs.Prelude.{◌≡◌, ℕ, ◌+◌, ◌<◌, ◌≤◌, List, [], ◌∷◌, ◌++◌, Ok, Err, Result, slice_index_or, slice_set}
 use Rattle.std.specs.Borrow.{Bor}
 use Rattle.plans.specs.declared.plan.Grid.{Grid}
 use Rattle.plans.specs.declared.fault.Stop.{Stop}
 use Rattle.plans.specs.declared.fault.Fault.{Fault}
 use Rattle.plans.specs.declared.fault.Fault.TheVariants.{UnknownCommand, CutShort, OutOfRange, GivenTwice, BadEnds, TooMany, AfterEnd}
-use Rattle.plans.specs.Steps.{Begins, Fails}
-use Rattle.plans.specs.Plans.{Head, Command, post, block, weigh, point, join, spell, Good}
-use Rattle.plans.specs.Plans.{Fault as Faulty}
-use Rattle.plans.specs.Faults.{fault_number}
+use Rattle.plans.specs.Steps.{Read}
+use Rattle.plans.specs.Plans.{Command, post, block, weigh, point, join, Good}
 use Rattle.plans.specs.GridPlans.{head_of}
 use Rattle.plans.specs.Holdings.{blank}
 use Rattle.plans.specs.Holdings.{nowhere, Placed}
@@ -63,26 +60,6 @@ pub record Holds (cs : List Command) (g : Grid) (m : List ℕ) : Type 0 where
   pub posted : Placed cs g
   pub wrote : m ≡ written g.width blank cs
 
--- the command at the front is good, and the record and the memory now hold it
-pub record Takes (cs : List Command) (left next : List ℕ) (g g' : Grid) (m' : List ℕ) : Type 0 where
-  pub command : Command
-  pub spelled : left ≡ spell command ++ next
-  pub good : Good (head_of g) cs command
-  pub holds : Holds (cs ++ (command ∷ [])) g' m'
-
--- one command at the front of what is left, whatever commands the record and the memory hold:
--- what is left after it, or the end, or a fault with its offset from there
-abbrev pub Stepped : Grid → List ℕ → List ℕ → Grid → List ℕ → Result (Option (Bor (List ℕ))) Stop → Type 0
-Stepped g m left g' m' (Ok None) = (left ≡ 69 ∷ []) × (g' ≡ g) × (m' ≡ m)
-Stepped g m left g' m' (Ok (Some next)) = (length next.now < length left) × ((cs : List Command) → Holds cs g m → Takes cs left next.now g g' m')
-Stepped g m left g' m' (Err e) = (e.at ≤ length left) × ((cs : List Command) → Holds cs g m → Faulty (head_of g) cs left (fault_number e.fault) e.at)
-
--- the commands of a plan, up to the end command
-pub record Ends (h : Head) (bytes : List ℕ) (g : Grid) (m : List ℕ) : Type 0 where
-  pub commands : List Command
-  pub begins : Begins h bytes commands (69 ∷ [])
-  pub holds : Holds commands g m
-
-abbrev pub Run : Grid → List ℕ → Grid → List ℕ → Result Unit Stop → Type 0
-Run g bytes g' m' (Ok x) = Ends (head_of g) bytes g' m'
-Run g bytes g' m' (Err e) = (e.at ≤ length bytes) × Fails (head_of g) bytes (fault_number e.fault) e.at
+-- reading the command at the front of what is left, whatever commands the record and the memory hold
+abbrev pub GridRead : Grid → List ℕ → List ℕ → Grid → List ℕ → Result (Bor (List ℕ)) Stop → Type 0
+GridRead g m left g' m' r = Read (head_of g) (λ cs. Holds cs g m) (λ cs. Holds cs g' m') left r

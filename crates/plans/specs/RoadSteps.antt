@@ -9,15 +9,12 @@
 --     EndsKnown ns cs        the ends of all lanes are among the numbers ns
 --     Holds cs p m slots     the record, the memory and the index are as the commands cs say
 --     Takes cs c p m slots   the command c may come after cs, and the record, the memory and the index are as both say
---     Closes, Goes           what is left is the end command alone, or begins with one more command, after which `next` is left
 --     Judged h cs c n        the number with which the well spelled command c is refused after cs
---     Ends bytes p m         the bytes are good commands up to one end command, and the record and the memory are as they say
 use Rattle.std.specs.Prelude.{◌≡◌, ℕ, ◌+◌, ◌<◌, ◌≤◌, cond, ◌⊎◌, List, [], ◌∷◌, ◌++◌, length, take, drop, Some, None, Option, ◌≢◌, nat_lt, slice_index}
 use Rattle.tables.specs.declared.index.Inserted.{Inserted}
 use Rattle.tables.specs.Indexes.{Absent, Indexed, Covers, Inserts}
 use Rattle.plans.specs.declared.plan.Road.{Road}
-use Rattle.plans.specs.Steps.{Begins}
-use Rattle.plans.specs.Plans.{Head, road, Command, post, block, weigh, point, join, spell, InRange, Fresh, Ended, Room, Good, joins}
+use Rattle.plans.specs.Plans.{Head, road, Command, post, block, weigh, point, join, InRange, Fresh, Ended, Room, Good, joins}
 use Rattle.plans.specs.Surveys.{numbers}
 use Rattle.plans.specs.Meanings.{surveys_of, index_of}
 use Rattle.plans.specs.RoadPlans.{image}
@@ -66,21 +63,9 @@ pub record Holds (cs : List Command) (p : Road) (m slots : List ℕ) : Type 0 wh
 abbrev pub Takes : List Command → Command → Road → List ℕ → List ℕ → Type 0
 Takes cs c p m slots = Good road cs c × Holds (cs ++ (c ∷ [])) p m slots
 
-abbrev pub Closes : List Command → List ℕ → Road → List ℕ → List ℕ → Type 0
-Closes cs left p m slots = (left ≡ 69 ∷ []) × Holds cs p m slots
-
-abbrev pub Goes : List Command → List ℕ → List ℕ → Road → List ℕ → List ℕ → Type 0
-Goes cs left next p m slots = (c : Command) × (left ≡ spell c ++ next) × Takes cs c p m slots
-
 abbrev pub Judged : Head → List Command → Command → ℕ → Type 0
 Judged h cs c n =
     ((InRange h c → ⊥) × (n ≡ 6))
     ⊎ ((InRange h c × (Fresh cs c → ⊥) × (n ≡ 7))
     ⊎ ((InRange h c × Fresh cs c × (Ended cs c → ⊥) × (n ≡ 8))
     ⊎ (InRange h c × Fresh cs c × Ended cs c × (Room cs c → ⊥) × (n ≡ 9))))
-
-pub record Ends (bytes : List ℕ) (p : Road) (m : List ℕ) : Type 0 where
-  pub commands : List Command
-  pub slots : List ℕ
-  pub begins : Begins road bytes commands (69 ∷ [])
-  pub holds : Holds commands p m slots

@@ -8,6 +8,7 @@ pub mod memory;
 pub mod outcome;
 pub mod plan;
 mod ray;
+mod reader;
 pub mod reading;
 pub mod road;
 mod road_plan;

@@ -1,5 +1,5 @@
 // Reading a plan: its bytes in, a record out, and the rest of the plan in the lent memory.
-ghost use Rattle.std.specs.Prelude.{◌≡◌, ◌<◌, ◌≤◌, length, replicate, if◌then◌else◌, Some, Decides, MatchResult};
+ghost use Rattle.std.specs.Prelude.{◌≡◌, ◌<◌, ◌≤◌, length, replicate, Some, Decides, MatchResult};
 ghost use Rattle.kinds.specs.Refusals.{number_of, offset_of};
 ghost use Rattle.plans.specs.Faults.{fault_number};
 ghost use Rattle.plans.specs.Holdings.{blank};
@@ -21,7 +21,7 @@ pub const PLAN_MEMORY: usize = 10_240;
 // How many index slots reading takes.
 pub const PLAN_SLOTS: usize = 1_024;
 
-// The refusal that a fault leads to.
+// The refusal that a fault leads to. No From<Stop>, which may ask for nothing: a refusal has no place for an offset past 65,535.
 fn refusal(stop: Stop) -> Refusal
     requires { stop.at ≤ 65535 }
     ensures number { number_of result ≡ fault_number stop.fault }
@@ -49,35 +49,32 @@ fn read_kind(bytes: &[u8], memory: &mut [u8], slots: &mut [u16]) -> Result<Plan,
         return Err(Refusal::NotAPlan);
     };
     match char::from(*letter) {
-        'G' => match read_grid(operands, memory) {
-            Ok(grid) => Ok(Plan::Grid(grid)),
-            Err(stop) => Err(refusal(stop)),
-        },
-        'M' => match read_road(operands, memory, slots) {
-            Ok(road) => Ok(Plan::Road(road)),
-            Err(stop) => Err(refusal(stop)),
-        },
+        'G' => Ok(Plan::Grid(read_grid(operands, memory).map_err(refusal)?)),
+        'M' => Ok(Plan::Road(read_road(operands, memory, slots).map_err(refusal)?)),
         _ => Err(Refusal::NotAPlan),
     }
 }
 
-// The lent plan memory while it is read: zero again at the end, unless the plan was accepted.
+// The lent plan memory while it is read: zero again at the end, unless the plan is accepted.
 struct Guard<'a> {
     bytes: &'a mut [u8],
-    accepted: bool,
+}
+
+impl Guard<'_> {
+    // Leaves the memory as it is.
+    fn accept(self)
+        ensures { self.exit.0.now ≡ self.entry.bytes.now }
+    {
+        let Guard { bytes: _ } = self;
+    }
 }
 
 impl Drop for Guard<'_> {
     fn drop(self)
-        ensures { self.exit.0.now ≡ (if self.entry.accepted then self.entry.bytes.now else replicate (length self.entry.bytes.now) 0) }
+        ensures { self.exit.0.now ≡ replicate (length self.entry.bytes.now) 0 }
     {
-        if !self.accepted {
-            self.bytes.fill(0);
-        }
-        let Guard {
-            bytes: _,
-            accepted: _,
-        } = self;
+        self.bytes.fill(0);
+        let Guard { bytes: _ } = self;
     }
 }
 
@@ -87,14 +84,11 @@ fn read_guarded(bytes: &[u8], memory: &mut [u8], slots: &mut [u16]) -> Result<Pl
     ensures said { Outcome bytes.now memory.new result }
     ensures vacant { slots.new ≡ vacant }
 {
-    let mut guard = Guard {
-        bytes: memory,
-        accepted: false,
-    };
+    let guard = Guard { bytes: memory };
     guard.bytes.fill(0);
     clear(slots);
     let plan = read_kind(bytes, guard.bytes, slots)?;
-    guard.accepted = true;
+    guard.accept();
     Ok(plan)
 }
 

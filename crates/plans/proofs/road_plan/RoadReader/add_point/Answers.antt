@@ -1,24 +1,24 @@
-use Rattle.std.proofs.Common.{◌≡◌, ℕ, ◌<◌, true, false, sym, refl, ◌∙◌, inl, inr, arith}
+use Rattle.std.proofs.Common.{◌≡◌, ℕ, ◌<◌, true, false, sym, refl, ◌∙◌, inl, inr, arith, rules}
 use Rattle.plans.specs.Plans.{Surveyed}
 use Rattle.plans.specs.Surveys.{survey_at}
 use Rattle.plans.proofs.RoadSurveys.{length_surveys}
 use Rattle.plans.proofs.RoadHoldings.{some_found, none_found, surveyed_found, unsurveyed_absent, holds_point}
-use Rattle.plans.proofs.road_plan.add_point.Goals as goal
+use Rattle.plans.proofs.road_plan.RoadReader.add_point.Goals as goal
 
-pub returns-then-is_some : goal.returns-then-is_some
-returns-then-is_some c cs h =
-    let m = c.args.memory.now in
-    let slots = c.args.slots.now in
-    let counts = c.args.counts.now in
+pub returns-then-is_some-clause-said : goal.returns-then-is_some-clause-said
+returns-then-is_some-clause-said c cs h =
+    let m = c.args.self.now.memory.now in
+    let slots = c.args.self.now.slots.now in
+    let counts = c.args.self.now.road in
     let n = c.args.survey in
     let found = some_found (survey_at m counts.points) slots n c.point_of.result c.point_of.ensures (sym c.is_some.ensures ∙ c.if-is_some.true) in
     inr (inl (tt, (λ fresh. fresh (surveyed_found cs counts m slots h found.0 n found.1)), refl))
 
-pub returns-then-not-has_point_room : goal.returns-then-not-has_point_room
-returns-then-not-has_point_room c cs h =
-    let m = c.args.memory.now in
-    let slots = c.args.slots.now in
-    let counts = c.args.counts.now in
+pub returns-then-not-has_point_room-clause-said : goal.returns-then-not-has_point_room-clause-said
+returns-then-not-has_point_room-clause-said c cs h =
+    let m = c.args.self.now.memory.now in
+    let slots = c.args.self.now.slots.now in
+    let counts = c.args.self.now.road in
     let n = c.args.survey in
     let none = none_found (survey_at m counts.points) slots n c.point_of.result c.point_of.ensures (sym c.is_some.ensures ∙ c.if-is_some.false) in
     inr (inr (inr (
@@ -32,16 +32,16 @@ returns-then-not-has_point_room c cs h =
       refl,
     )))
 
-pub returns : goal.returns
-returns c cs h =
-    let m = c.args.memory.now in
-    let slots = c.args.slots.now in
-    let counts = c.args.counts.now in
+pub returns-clause-said : goal.returns-clause-said
+returns-clause-said c cs h =
+    let m = c.args.self.now.memory.now in
+    let slots = c.args.self.now.slots.now in
+    let counts = c.args.self.now.road in
     let n = c.args.survey in
     let to = c.enter_point.new.slots in
     let none = none_found (survey_at m counts.points) slots n c.point_of.result c.point_of.ensures (sym c.is_some.ensures ∙ c.if-is_some.false) in
     let fresh : Surveyed cs n → ⊥ = unsurveyed_absent cs counts m slots h n none in
     let few : counts.points < 512 = c.has_point_room.ensures.0 c.if-not-has_point_room.false in (
       (tt, tt, fresh, tt, omega (arith, h.counted, length_surveys cs)),
-      holds_point cs counts m slots h n c.write_survey.new.memory to c.write_survey.ensures fresh few c.enter_point.ensures.placed c.enter_point.ensures.kept,
+      holds_point cs counts m slots h n _ to (search rules) fresh few c.enter_point.ensures.placed c.enter_point.ensures.kept,
     )

@@ -1,19 +1,19 @@
 use Rattle.std.proofs.Common.{◌≡◌, ℕ, ◌<◌, true, false, sym, refl, ◌∙◌, inl, inr, arith}
 use Rattle.plans.proofs.RoadHoldings.{ended_found, unended_absent, holds_join}
-use Rattle.plans.proofs.road_plan.add_lane.Goals as goal
+use Rattle.plans.proofs.road_plan.RoadReader.add_lane.Goals as goal
 
-pub returns-in_default : goal.returns-in_default
-returns-in_default c cs h =
+pub returns-in_default-clause-said : goal.returns-in_default-clause-said
+returns-in_default-clause-said c cs h =
     let a = c.args.join in
     let range = c.is_in_range.ensures.0 c.if-not-is_in_range.false in
-    inr (inr (inl (range, tt, unended_absent cs c.args.counts.now c.args.memory.now c.args.slots.now h a.first a.second c.in_default.ensures, refl)))
+    inr (inr (inl (range, tt, unended_absent cs c.args.self.now.road c.args.self.now.memory.now c.args.self.now.slots.now h a.first a.second c.in_default.ensures, refl)))
 
-pub returns-then-not-has_lane_room : goal.returns-then-not-has_lane_room
-returns-then-not-has_lane_room c cs h =
+pub returns-then-not-has_lane_room-clause-said : goal.returns-then-not-has_lane_room-clause-said
+returns-then-not-has_lane_room-clause-said c cs h =
     let a = c.args.join in
-    let counts = c.args.counts.now in
+    let counts = c.args.self.now.road in
     let range = c.is_in_range.ensures.0 c.if-not-is_in_range.false in
-    let ends = ended_found cs counts c.args.memory.now c.args.slots.now h a.first a.second c.in-Some.first c.in-Some.second c.in-Some.ensures in
+    let ends = ended_found cs counts c.args.self.now.memory.now c.args.self.now.slots.now h a.first a.second c.in-Some.first c.in-Some.second c.in-Some.ensures in
     inr (inr (inr (
       range,
       tt,
@@ -25,12 +25,12 @@ returns-then-not-has_lane_room c cs h =
       refl,
     )))
 
-pub returns : goal.returns
-returns c cs h =
+pub returns-clause-said : goal.returns-clause-said
+returns-clause-said c cs h =
     let a = c.args.join in
-    let m = c.args.memory.now in
-    let slots = c.args.slots.now in
-    let counts = c.args.counts.now in
+    let m = c.args.self.now.memory.now in
+    let slots = c.args.self.now.slots.now in
+    let counts = c.args.self.now.road in
     let range = c.is_in_range.ensures.0 c.if-not-is_in_range.false in
     let found = c.in-Some.ensures in
     let ends = ended_found cs counts m slots h a.first a.second c.in-Some.first c.in-Some.second found in

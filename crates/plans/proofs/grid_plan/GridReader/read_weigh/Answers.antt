@@ -1,0 +1,38 @@
+use Rattle.std.proofs.Common.{◌≤◌, ◌∷◌, length, get_or, refl, ap, inr, arith, rules}
+use Rattle.std.proofs.lemmas.Result.{err_from_is_err_and}
+use Rattle.plans.specs.Plans.{weigh}
+use Rattle.plans.specs.GridPlans.{head_of}
+use Rattle.plans.proofs.Fronts.{rest, front, rest_shorter}
+use Rattle.plans.proofs.Faults.{fault_short}
+use Rattle.plans.proofs.GridFaults.{fault_range}
+use Rattle.plans.proofs.GridWrites.{holds_weigh}
+use Rattle.plans.proofs.grid_plan.GridReader.read_weigh.Goals as goal
+
+pub returns-in_default-clause-said : goal.returns-in_default-clause-said
+returns-in_default-clause-said c = (omega arith, λ cs h. fault_short (head_of c.args.self.now.grid) cs 87 3 c.args.operands.now (inr (inr (refl, refl))) (search rules))
+
+pub returns-in_err-place-clause-said : goal.returns-in_err-place-clause-said
+returns-in_err-place-clause-said c =
+    let xs = c.args.operands.now in
+    let three : 3 ≤ length xs = search rules in
+    let p = err_from_is_err_and c.from_residual.result c.from_residual.ensures.1 in
+    let wrong = c.in_err-place.ensures in
+    rw (p.1, p.2, wrong.0) (
+      omega arith,
+      λ cs h.
+          fault_range (head_of c.args.self.now.grid) cs (weigh (get_or xs 0 0) (get_or xs 1 0) (get_or xs 2 0)) (87 ∷ xs) (rest 3 xs) (ap (λ ys. 87 ∷ ys) (front 3 xs three)) tt wrong.1,
+    )
+
+pub returns-clause-said : goal.returns-clause-said
+returns-clause-said c =
+    let xs = c.args.operands.now in
+    let three : 3 ≤ length xs = search rules in
+    let found = c.in_ok-place.ensures in (
+      rest_shorter 3 xs,
+      λ cs h. record {
+        command = weigh (get_or xs 0 0) (get_or xs 1 0) (get_or xs 2 0);
+        spelled = ap (λ ys. 87 ∷ ys) (front 3 xs three);
+        good = (tt, found.0, tt, tt, tt);
+        holds = holds_weigh cs c.args.self.now.grid c.args.self.now.memory.now (get_or xs 0 0) (get_or xs 1 0) (get_or xs 2 0) c.in_ok-place.place found.1 h;
+      },
+    )
