@@ -11,6 +11,7 @@ pub mod GridTellings
 pub mod GridWrites
 pub mod Judging
 pub mod Mapped
+pub mod Neighbours
 pub mod Openings
 pub mod RoadCommands
 pub mod Faults

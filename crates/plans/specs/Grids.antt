@@ -6,6 +6,8 @@
 --     place w c r      the number of the point at the column c and the row r, where a row has w points
 --     over p c y       the lane between the columns c and c + 1 on the row y crosses the ray of the post p
 --     eastward k ps c y  what that lane crosses going east, where the rays of the posts ps are numbered from k on
+--     crossed ps c r d q    what the lane between neighbours, from (c, r) to (d, q), crosses where the posts ps stand
+--     beside w h c r n      where the neighbour with the number n of (c, r) lies, if it is on the grid
 --     lane_to t c r d q x   the lane from (c, r) to (d, q) that crosses x: as long as the spacing, with the larger risk of its ends
 --     way t e c r d q x  that lane, if it stays on the grid, as e says, and neither end is blocked
 --     lane_at t c r n  the lane with the number n at (c, r)
@@ -22,6 +24,7 @@ use Rattle.kinds.specs.Maps.{Site}
 use Rattle.plans.specs.declared.plan.Post.{Post}
 use Rattle.plans.specs.declared.plan.Grid.{Grid}
 use Rattle.plans.specs.declared.grid.GridMap.{GridMap}
+use Rattle.plans.specs.declared.grid.Spot.{Spot}
 use Rattle.plans.specs.Rays.{ahead}
 
 pub record Terrain : Type 0 where
@@ -53,6 +56,18 @@ over p c y = p.column == c && nat_le (p.row + 1) y
 abbrev pub eastward : ℕ → List Post → ℕ → ℕ → Crossing
 eastward k [] c y = cross.None
 eastward k (p ∷ ps) c y = cond (over p c y) (ahead k) (eastward (k + 1) ps c y)
+
+abbrev pub crossed : List Post → ℕ → ℕ → ℕ → ℕ → Crossing
+crossed ps c r d q = cond (nat_lt c d) (eastward 1 ps c r) (cond (nat_lt d c) (other_way (eastward 1 ps d q)) cross.None)
+
+-- 0 east, 1 west, 2 north, 3 south
+abbrev pub beside : ℕ → ℕ → ℕ → ℕ → ℕ → Option Spot
+beside w h c r n =
+    cond (n == 0) (cond (nat_lt (c + 1) w) (Some (record { column = c + 1; row = r })) None)
+    (cond (n == 1) (cond (nat_lt 0 c) (Some (record { column = c - 1; row = r })) None)
+    (cond (n == 2) (cond (nat_lt (r + 1) h) (Some (record { column = c; row = r + 1 })) None)
+    (cond (n == 3) (cond (nat_lt 0 r) (Some (record { column = c; row = r - 1 })) None)
+    None)))
 
 -- a risk is a byte
 abbrev pub lane_to : Terrain → ℕ → ℕ → ℕ → ℕ → Crossing → Lane

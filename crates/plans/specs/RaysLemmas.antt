@@ -35,12 +35,12 @@ first_of k [] c y = refl
 first_of k (p ∷ ps) c y = first (over p c y) k (position_or_len (λ p. over p c y) ps) (length ps) (eastward (k + 1) ps c y) (first_of (k + 1) ps c y)
 
 -- the ray at a place among rays numbered from k on
-abbrev pub crossed : ℕ → Option ℕ → Crossing
-crossed k (Some i) = ahead (k + i)
-crossed k None = cross.None
+abbrev pub ray_at : ℕ → Option ℕ → Crossing
+ray_at k (Some i) = ahead (k + i)
+ray_at k None = cross.None
 
-pub eastward_first : (k : ℕ) (ps : List Post) (c y : ℕ) → eastward k ps c y ≡ crossed k (position (λ p. over p c y) ps)
+pub eastward_first : (k : ℕ) (ps : List Post) (c y : ℕ) → eastward k ps c y ≡ ray_at k (position (λ p. over p c y) ps)
 eastward_first k ps c y =
     let n = position_or_len (λ p. over p c y) ps in
-    let same : (b : Bool) → cond b (ahead (k + n)) cross.None ≡ crossed k (cond b (Some n) None) = elim [ true ↦ refl | false ↦ refl ] in
+    let same : (b : Bool) → cond b (ahead (k + n)) cross.None ≡ ray_at k (cond b (Some n) None) = elim [ true ↦ refl | false ↦ refl ] in
     first_of k ps c y ∙ same (nat_lt n (length ps))

@@ -1,7 +1,6 @@
 // A grid as a map: a record and the memory of its points.
-ghost use Rattle.std.specs.Prelude.{◌≡◌, ◌+◌, ◌-◌, ◌*◌, ◌/◌, ◌%◌, ◌<◌, not, ◌&&◌, take};
-ghost use Rattle.kinds.specs.Crossings.{other_way};
-ghost use Rattle.plans.specs.Grids.{sized, points_of, Inside, place, over, eastward, lane_to, lane_at, grid_site, terrain_of};
+ghost use Rattle.std.specs.Prelude.{◌≡◌, ◌/◌, ◌%◌, ◌<◌, not, ◌&&◌, take};
+ghost use Rattle.plans.specs.Grids.{sized, points_of, Inside, place, over, eastward, crossed, beside, lane_to, lane_at, grid_site, terrain_of};
 ghost use Rattle.plans.specs.GridsLemmas.{lawful_lanes, lawful_estimates};
 
 use crate::memory::Memory;
@@ -24,51 +23,9 @@ pub struct GridMap<B> {
 
 // Where a point lies: column 0 is west, row 0 south.
 #[derive(Clone, Copy)]
-struct Spot {
-    column: u8,
-    row: u8,
-}
-
-impl Spot {
-    fn east(self) -> Spot
-        requires { self.column < 255 }
-        ensures { result ≡ record { column = self.column + 1; row = self.row } }
-    {
-        Spot {
-            column: self.column + 1,
-            row: self.row,
-        }
-    }
-
-    fn west(self) -> Spot
-        requires { 0 < self.column }
-        ensures { result ≡ record { column = self.column - 1; row = self.row } }
-    {
-        Spot {
-            column: self.column - 1,
-            row: self.row,
-        }
-    }
-
-    fn north(self) -> Spot
-        requires { self.row < 255 }
-        ensures { result ≡ record { column = self.column; row = self.row + 1 } }
-    {
-        Spot {
-            column: self.column,
-            row: self.row + 1,
-        }
-    }
-
-    fn south(self) -> Spot
-        requires { 0 < self.row }
-        ensures { result ≡ record { column = self.column; row = self.row - 1 } }
-    {
-        Spot {
-            column: self.column,
-            row: self.row - 1,
-        }
-    }
+pub(crate) struct Spot {
+    pub(crate) column: u8,
+    pub(crate) row: u8,
 }
 
 // Whether the lane from the spot to its east crosses the ray of the post.
@@ -104,7 +61,7 @@ impl Grid {
     }
 
     // The number of the point at the spot, counted row by row.
-    fn point_at(&self, spot: Spot) -> u16
+    pub(crate) fn point_at(&self, spot: Spot) -> u16
         ensures { result ≡ place self.now.width spot.column spot.row }
     {
         u16::from(spot.row) * u16::from(self.width) + u16::from(spot.column)
@@ -142,12 +99,33 @@ impl Grid {
         }
     }
 
-    // What the lane from the spot to its west crosses: the same, backwards.
-    fn westward(&self, spot: Spot) -> Crossing
-        requires { 0 < spot.column }
-        ensures { result ≡ other_way (eastward 1 (take self.now.count self.now.posts) (spot.column - 1) spot.row) }
+    // What the lane between two neighbours crosses: a ray forwards to the east, or backwards to the west.
+    fn crossed(&self, from: Spot, to: Spot) -> Crossing
+        ensures { result ≡ crossed (take self.now.count self.now.posts) from.column from.row to.column to.row }
     {
-        self.eastward(spot.west()).opposite()
+        if from.column < to.column {
+            self.eastward(from)
+        } else if to.column < from.column {
+            self.eastward(to).opposite()
+        } else {
+            Crossing::None
+        }
+    }
+
+    // The neighbour of the spot in the grid: 0 east, 1 west, 2 north, 3 south.
+    fn beside(&self, spot: Spot, number: u16) -> Option<Spot>
+        requires { Inside self.now.width self.now.height spot.column spot.row }
+        ensures { result ≡ beside self.now.width self.now.height spot.column spot.row number }
+    {
+        let Spot { column, row } = spot;
+        let (column, row) = match number {
+            0 if column + 1 < self.width => (column + 1, row),
+            1 if column > 0 => (column - 1, row),
+            2 if row + 1 < self.height => (column, row + 1),
+            3 if row > 0 => (column, row - 1),
+            _ => return None,
+        };
+        Some(Spot { column, row })
     }
 }
 
@@ -174,42 +152,28 @@ impl<B: Memory> GridMap<B> {
         self.memory.byte(usize::from(self.grid.point_at(spot)))
     }
 
-    // The lane from one point to another that crosses this.
-    fn lane_to(&self, from: Spot, to: Spot, crossing: Crossing) -> Lane
-        ensures { result ≡ lane_to (terrain_of B.Memory.bytes self.now) from.column from.row to.column to.row crossing }
+    // The lane between two neighbours.
+    fn lane_to(&self, from: Spot, to: Spot) -> Lane
+        ensures { result ≡ lane_to (terrain_of B.Memory.bytes self.now) from.column from.row to.column to.row (crossed (take self.now.grid.count self.now.grid.posts) from.column from.row to.column to.row) }
     {
-        let risk = self.risk_at(from).max(self.risk_at(to));
         Lane {
             to: self.grid.point_at(to),
             length: self.grid.spacing,
-            risk,
-            crossing,
+            risk: self.risk_at(from).max(self.risk_at(to)),
+            crossing: self.grid.crossed(from, to),
         }
     }
 
-    // The lane with the number at the spot: 0 east, 1 west, 2 north, 3 south.
+    // The lane from the spot to the neighbour with the number, if neither is blocked.
     fn lane_at(&self, spot: Spot, number: u16) -> Option<Lane>
         requires { Inside self.now.grid.width self.now.grid.height spot.column spot.row }
         ensures { result ≡ lane_at (terrain_of B.Memory.bytes self.now) spot.column spot.row number }
     {
-        match number {
-            0 if spot.column + 1 < self.grid.width && self.are_free(spot, spot.east()) => Some(
-                self.lane_to(spot, spot.east(), self.grid.eastward(spot)),
-            ),
-            1 if spot.column > 0 && self.are_free(spot, spot.west()) => Some(self.lane_to(
-                spot,
-                spot.west(),
-                self.grid.westward(spot),
-            )),
-            2 if spot.row + 1 < self.grid.height && self.are_free(spot, spot.north()) => Some(
-                self.lane_to(spot, spot.north(), Crossing::None),
-            ),
-            3 if spot.row > 0 && self.are_free(spot, spot.south()) => Some(self.lane_to(
-                spot,
-                spot.south(),
-                Crossing::None,
-            )),
-            _ => None,
+        let next = self.grid.beside(spot, number)?;
+        if self.are_free(spot, next) {
+            Some(self.lane_to(spot, next))
+        } else {
+            None
         }
     }
 }

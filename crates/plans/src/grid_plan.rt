@@ -8,7 +8,7 @@ ghost use Rattle.plans.specs.Grids.{place};
 ghost use Rattle.plans.specs.GridSteps.{Squared, Taken, PostJudged, PostAdded, Holds, GridRead};
 
 use crate::fault::{CUT_SHORT, Fault, OUT_OF_RANGE, Stop, UNKNOWN_COMMAND};
-use crate::grid::BLOCKED;
+use crate::grid::{BLOCKED, Spot};
 use crate::plan::{Grid, Post};
 use crate::reader::{Reader, read_commands};
 
@@ -17,12 +17,12 @@ const NOWHERE: Post = Post { column: 0, row: 0 };
 
 impl Grid {
     // Whether the square with this south-west corner lies in the grid.
-    fn has_square(&self, column: u8, row: u8) -> bool
-        ensures yes { result ≡ true → Squared self.now column row }
-        ensures no { result ≡ false → Squared self.now column row → ⊥ }
+    fn has_square(&self, corner: Post) -> bool
+        ensures yes { result ≡ true → Squared self.now corner.column corner.row }
+        ensures no { result ≡ false → Squared self.now corner.column corner.row → ⊥ }
     {
-        u16::from(column) + 2 <= u16::from(self.width)
-            && u16::from(row) + 2 <= u16::from(self.height)
+        u16::from(corner.column) + 2 <= u16::from(self.width)
+            && u16::from(corner.row) + 2 <= u16::from(self.height)
     }
 
     // Whether one of the posts stands in the column.
@@ -55,14 +55,14 @@ struct GridReader<'a> {
 }
 
 impl GridReader<'_> {
-    // Whether one more post may stand here, or the first thing that is wrong with it.
-    fn judge_post(&self, column: u8, row: u8) -> Result<(), Fault>
-        ensures { PostJudged self.now.grid column row result }
+    // Whether one more post may stand where this one does, or the first thing that is wrong with it.
+    fn judge_post(&self, post: Post) -> Result<(), Fault>
+        ensures { PostJudged self.now.grid post.column post.row result }
     {
-        if !self.grid.has_square(column, row) {
+        if !self.grid.has_square(post) {
             return Err(Fault::OutOfRange);
         }
-        if self.grid.has_post_in(column) {
+        if self.grid.has_post_in(post.column) {
             return Err(Fault::GivenTwice);
         }
         if self.grid.is_full() {
@@ -72,24 +72,24 @@ impl GridReader<'_> {
     }
 
     // Takes up one more post, unless something is wrong with it.
-    fn add_post(&mut self, column: u8, row: u8) -> Result<(), Fault>
+    fn add_post(&mut self, post: Post) -> Result<(), Fault>
         ensures head { head_of self.new.grid ≡ head_of self.old.grid }
         ensures same_slice { self.new.memory.ghost_name ≡ self.old.memory.ghost_name }
         ensures kept { self.new.memory.now ≡ self.old.memory.now }
-        ensures added { PostAdded self.old.grid column row self.new.grid result }
+        ensures added { PostAdded self.old.grid post.column post.row self.new.grid result }
     {
-        self.judge_post(column, row)?;
-        self.grid.posts[usize::from(self.grid.count)] = Post { column, row };
+        self.judge_post(post)?;
+        self.grid.posts[usize::from(self.grid.count)] = post;
         self.grid.count += 1;
         Ok(())
     }
 
     // The number of a point, which must lie in the grid.
-    fn place_of(&self, column: u8, row: u8) -> Result<usize, Fault>
-        ensures { MatchResult result (λ p. Inside self.now.grid column row × (p ≡ place self.now.grid.width column row) × (p < 4096)) (λ f. (f ≡ Fault.OutOfRange) × (Inside self.now.grid column row → ⊥)) }
+    fn place_of(&self, spot: Spot) -> Result<usize, Fault>
+        ensures { MatchResult result (λ p. Inside self.now.grid spot.column spot.row × (p ≡ place self.now.grid.width spot.column spot.row) × (p < 4096)) (λ f. (f ≡ Fault.OutOfRange) × (Inside self.now.grid spot.column spot.row → ⊥)) }
     {
-        if column < self.grid.width && row < self.grid.height {
-            Ok(usize::from(row) * usize::from(self.grid.width) + usize::from(column))
+        if spot.column < self.grid.width && spot.row < self.grid.height {
+            Ok(usize::from(self.grid.point_at(spot)))
         } else {
             Err(Fault::OutOfRange)
         }
@@ -104,7 +104,10 @@ impl GridReader<'_> {
         let [column, row, next @ ..] = operands else {
             return Err(CUT_SHORT);
         };
-        self.add_post(*column, *row)?;
+        self.add_post(Post {
+            column: *column,
+            row: *row,
+        })?;
         Ok(next)
     }
 
@@ -117,7 +120,10 @@ impl GridReader<'_> {
         let [column, row, next @ ..] = operands else {
             return Err(CUT_SHORT);
         };
-        let place = self.place_of(*column, *row)?;
+        let place = self.place_of(Spot {
+            column: *column,
+            row: *row,
+        })?;
         self.memory[BLOCKED + place] = 1;
         Ok(next)
     }
@@ -131,7 +137,10 @@ impl GridReader<'_> {
         let [column, row, risk, next @ ..] = operands else {
             return Err(CUT_SHORT);
         };
-        let place = self.place_of(*column, *row)?;
+        let place = self.place_of(Spot {
+            column: *column,
+            row: *row,
+        })?;
         self.memory[place] = *risk;
         Ok(next)
     }

@@ -1,5 +1,5 @@
 // Rays and crossings by their numbers, as plans have them.
-ghost use Rattle.std.specs.Prelude.{◌≡◌};
+ghost use Rattle.std.specs.Prelude.{◌≡◌, cond};
 ghost use Rattle.plans.specs.Rays.{ahead, is_crossing, crossing_of};
 
 use kinds::crossing::{Crossing, Ray};
@@ -14,20 +14,13 @@ pub(crate) fn forwards(number: u8) -> Crossing
     }
 }
 
-// Whether the byte stands for a crossing.
-pub(crate) fn is_crossing(byte: u8) -> bool
-    ensures { result ≡ is_crossing byte }
-{
-    byte <= 7 || (129 <= byte && byte <= 135)
-}
-
 // The crossing that the byte stands for: 0 none, 1 to 7 forwards, 129 to 135 backwards.
-pub(crate) fn crossing_of(byte: u8) -> Crossing
-    ensures { result ≡ crossing_of byte }
+pub(crate) fn crossing_of(byte: u8) -> Option<Crossing>
+    ensures { result ≡ cond (is_crossing byte) (Some (crossing_of byte)) None }
 {
-    if byte < 128 {
-        forwards(byte)
-    } else {
-        forwards(byte - 128).opposite()
+    match byte {
+        0..=7 => Some(forwards(byte)),
+        129..=135 => Some(forwards(byte - 128).opposite()),
+        _ => None,
     }
 }

@@ -1,11 +1,14 @@
 // A roadmap as a map: a record and the memory of its lanes.
-ghost use Rattle.std.specs.Prelude.{◌≡◌, ◌<◌};
-ghost use Rattle.plans.specs.Roads.{few, sound, onward, backward, two_at, link_at, net_of, road_site};
+ghost use Rattle.std.specs.Prelude.{◌≡◌, ◌<◌, cond, Some, None};
+ghost use Rattle.plans.specs.Rays.{crossing_of};
+ghost use Rattle.plans.specs.Roads.{few, sound, onward, backward, leg, two_at, link_at, net_of, road_site};
+ghost use Rattle.plans.specs.Rays.{crossing_of};
 ghost use Rattle.plans.specs.RoadsLemmas.{lawful_lanes, lawful_estimates};
 
 use crate::memory::Memory;
 use crate::plan::Road;
-use crate::ray::{crossing_of, is_crossing};
+use crate::ray::crossing_of;
+use kinds::crossing::Crossing;
 use kinds::lane::Lane;
 use kinds::map::Map;
 
@@ -27,39 +30,55 @@ pub struct Link {
 }
 
 impl Link {
-    // Whether it may stand on a map of this many points.
-    fn is_sound(self, points: u16) -> bool
-        ensures { result ≡ sound points self }
+    // What it crosses, if it may stand on a map of this many points.
+    fn crossing_on(self, points: u16) -> Option<Crossing>
+        ensures { result ≡ cond (sound points self) (Some (crossing_of self.crossing)) None }
     {
-        self.first < points
+        let stands = self.first < points
             && self.second < points
             && self.first != self.second
-            && 1 <= self.length
-            && is_crossing(self.crossing)
+            && 1 <= self.length;
+        if stands {
+            crossing_of(self.crossing)
+        } else {
+            None
+        }
     }
 
-    // The lane from its first end to its second.
-    fn there(self) -> Lane
+    // The lane from its first end to its second, crossing this.
+    fn there(self, crossing: Crossing) -> Lane
+        requires { crossing ≡ crossing_of self.crossing }
         ensures { result ≡ onward self }
     {
         Lane {
             to: self.second,
             length: self.length,
             risk: self.risk,
-            crossing: crossing_of(self.crossing),
+            crossing,
         }
     }
 
     // The lane from its second end back to its first.
-    fn back(self) -> Lane
+    fn back(self, crossing: Crossing) -> Lane
+        requires { crossing ≡ crossing_of self.crossing }
         ensures { result ≡ backward self }
     {
-        let there = self.there();
         Lane {
             to: self.first,
-            length: there.length,
-            risk: there.risk,
-            crossing: there.crossing.opposite(),
+            crossing: crossing.opposite(),
+            ..self.there(crossing)
+        }
+    }
+
+    // The lane along it that starts at the point: onward for the number 0, else back.
+    fn leg(self, point: u16, number: u16, crossing: Crossing) -> Option<Lane>
+        requires { crossing ≡ crossing_of self.crossing }
+        ensures { result ≡ leg self point number }
+    {
+        if number == 0 {
+            (point == self.first).then_some(self.there(crossing))
+        } else {
+            (point == self.second).then_some(self.back(crossing))
         }
     }
 }
@@ -117,14 +136,8 @@ impl<B: Memory> Map for RoadMap<B> {
             return None;
         }
         let link = self.link_at(number / 2);
-        if !link.is_sound(self.road.point_count()) {
-            return None;
-        }
-        match number % 2 {
-            0 if point == link.first => Some(link.there()),
-            1 if point == link.second => Some(link.back()),
-            _ => None,
-        }
+        let crossing = link.crossing_on(self.road.point_count())?;
+        link.leg(point, number % 2, crossing)
     }
 
     fn estimate(&self, _point: u16, _aim: u16) -> u32 {

@@ -10,7 +10,7 @@ ghost use Rattle.plans.specs.RoadSteps.{put, Finds, Enters, NoEnds, BothEnds, Ho
 
 use crate::fault::{Fault, Stop, UNKNOWN_COMMAND};
 use crate::plan::Road;
-use crate::ray::is_crossing;
+use crate::ray::crossing_of;
 use crate::reader::{Reader, read_commands};
 use crate::survey::{Surveys, survey_place};
 use tables::index::{clear, find, insert};
@@ -63,7 +63,7 @@ fn take_join(bytes: &[u8]) -> Result<(Join, &[u8]), Fault>
 fn is_in_range(length: u16, crossing: u8) -> bool
     ensures { Decides result ((1 ≤ length) × CrossingByte crossing) }
 {
-    length >= 1 && is_crossing(crossing)
+    length >= 1 && crossing_of(crossing).is_some()
 }
 
 // Whether two survey numbers differ.
