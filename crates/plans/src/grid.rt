@@ -41,12 +41,9 @@ impl Grid {
     pub(crate) fn is_sized(&self) -> bool
         ensures { result ≡ sized self.now.width self.now.height self.now.spacing }
     {
-        2 <= self.width
-            && self.width <= 64
-            && 2 <= self.height
-            && self.height <= 64
-            && 1 <= self.spacing
-            && self.spacing <= 1000
+        (2..=64).contains(&self.width)
+            && (2..=64).contains(&self.height)
+            && (1..=1000).contains(&self.spacing)
     }
 
     // How many points it has; none if it is not sized.

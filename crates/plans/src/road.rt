@@ -12,6 +12,11 @@ use kinds::crossing::Crossing;
 use kinds::lane::Lane;
 use kinds::map::Map;
 
+// The most points and lane commands that a roadmap may have.
+pub(crate) const POINTS: u16 = 512;
+
+pub(crate) const LANES: u16 = 1_024;
+
 // The eight bytes of memory from 8 a on are the a-th lane command. One that is out of range names no lane.
 #[derive(Clone, Copy)]
 pub struct RoadMap<B> {
@@ -88,7 +93,11 @@ impl Road {
     pub(crate) fn point_count(&self) -> u16
         ensures { result ≡ few self.now.points }
     {
-        if self.points <= 512 { self.points } else { 0 }
+        if self.points <= POINTS {
+            self.points
+        } else {
+            0
+        }
     }
 }
 
@@ -128,11 +137,11 @@ impl<B: Memory> Map for RoadMap<B> {
     }
 
     fn limit(&self) -> u16 {
-        2048
+        2 * LANES
     }
 
     fn lane(&self, point: u16, number: u16) -> Option<Lane> {
-        if number >= 2048 || number / 2 >= self.road.lanes {
+        if number >= 2 * LANES || number / 2 >= self.road.lanes {
             return None;
         }
         let link = self.link_at(number / 2);

@@ -12,13 +12,9 @@ use crate::fault::{Fault, Stop, UNKNOWN_COMMAND};
 use crate::plan::Road;
 use crate::ray::crossing_of;
 use crate::reader::{Reader, read_commands};
+use crate::road::{LANES, POINTS};
 use crate::survey::{Surveys, survey_place};
 use tables::index::{clear, find, insert};
-
-// The most points and lanes that the memory has places for.
-const POINTS: u16 = 512;
-
-const LANES: u16 = 1024;
 
 // The operands of a lane command: two survey numbers, and what lies between.
 #[derive(Clone, Copy)]
