@@ -1,7 +1,8 @@
 -- What the key of a place is.
-use Rattle.std.proofs.Common.{◌≡◌, ℕ, ◌<◌, ◌≤◌, Bool, List, length, get_or, Some, None, Decides, sym, ap, ◌∙◌, inl, inr, arith}
+use Rattle.std.proofs.Common.{◌≡◌, ℕ, ◌<◌, ◌≤◌, Bool, true, false, List, length, get_or, Some, None, Option, Bor, Decides, MatchOption, sym, ap, ◌∙◌, inl, inr, arith}
+use Rattle.std.specs.List.{HoldsAt}
 use Rattle.std.proofs.lemmas.Option.{slice_get-get_or, slice_get_past}
-use Rattle.std.proofs.lemmas.Bool.{cases_lt}
+use Rattle.std.proofs.lemmas.Bool.{cases_lt, false≢true}
 use Rattle.kinds.specs.declared.class.Class.{Ghosts as Classes}
 use Rattle.charts.specs.declared.chart.Pair.{Pair}
 use Rattle.charts.specs.Charts.{Stands}
@@ -50,3 +51,9 @@ module _ {C K : Type 0} (b : Classes C) (xs : List (Pair C K)) (i : ℕ) where
 
   pub pair_not_past : (p : ℕ) (g : b.kind.Element) → length xs ≤ i → pair_at b xs i ≡ Some (pairing b p g) → ⊥
   pair_not_past p g le e = let (x, lt, _, _, _) = at_pair p g e in omega arith
+
+  -- the same of what `get` gave
+  pub item_decides : (p : ℕ) (g : b.kind.Element) (o : Option (Bor (Pair C K))) (r : Bool) → MatchOption o (length xs ≤ i) (λ x. (i < length xs) × HoldsAt (λ y. x.now ≡ y) xs i) →
+      MatchOption o (r ≡ false) (λ x. r ≡ is_pair b p g x.now) → Decides r (pair_at b xs i ≡ Some (pairing b p g))
+  item_decides p g None r le off = (λ t. absurd (false≢true (sym off ∙ t)), λ e. absurd (pair_not_past p g le e))
+  item_decides p g (Some x) r (lt, at) test = pair_decides p g x.now r lt (at x.now) (test ∙ ap (is_pair b p g) (at x.now))

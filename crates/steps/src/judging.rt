@@ -1,13 +1,11 @@
 // What charting refuses before any search, and what it leaves when it ends.
 ghost use Rattle.std.specs.Prelude.{◌≡◌, ◌*◌, ◌<◌, ◌≤◌, Decides};
-ghost use Rattle.steps.specs.Ends.{Pointless, Judged, VacantPlace, VacantRecord, or_too_large, kept_by, head_of};
+ghost use Rattle.steps.specs.Ends.{VacantPlace, VacantRecord, or_too_large, kept_by};
 
-use crate::asked::Asked;
 use crate::open::Open;
-use charts::chart::{Chart, Pair};
+use charts::chart::Pair;
 use kinds::class::Class;
 use kinds::cost::Cost;
-use kinds::map::Map;
 use kinds::refusal::Refusal;
 
 // The largest number of chart places.
@@ -20,73 +18,28 @@ const LONGEST_CABLE: u32 = 1_000_000;
 pub fn has_sizes(places: usize, queue: usize, slots: usize) -> bool
     ensures { Decides result ((1 ≤ places) × (places ≤ 4096) × (queue ≡ places) × (slots ≡ 2 * places)) }
 {
-    1 <= places && places <= MOST_PLACES && queue == places && slots == 2 * places
-}
-
-// Whether the reel or the aim is no point of the map.
-fn is_pointless<M: Map>(map: &M, asked: Asked) -> bool
-    ensures { Decides result (Pointless (M.Map.site map.now) asked) }
-{
-    let points = map.points();
-    match asked.aim {
-        None => asked.reel >= points,
-        Some(aim) => asked.reel >= points || aim >= points,
-    }
+    (1..=MOST_PLACES).contains(&places) && queue == places && slots == 2 * places
 }
 
 // Whether the cable number is too large.
-fn is_too_long(cable: u32) -> bool
+pub(crate) fn is_too_long(cable: u32) -> bool
     ensures { Decides result (1000000 < cable) }
 {
     cable > LONGEST_CABLE
-}
-
-// What is wrong with what is asked, before any search.
-pub fn judge<M: Map>(map: &M, asked: Asked) -> Option<Refusal>
-    ensures { Judged (M.Map.site map.now) asked result }
-{
-    if is_pointless(map, asked) {
-        return Some(Refusal::NoSuchPoint);
-    }
-    if is_too_long(asked.cable) {
-        return Some(Refusal::CableTooLong);
-    }
-    None
 }
 
 // What the search comes to: the number of pairs, or that the reach is too large.
 pub fn answered(pairs: Option<u16>) -> Result<u16, Refusal>
     ensures { result ≡ or_too_large pairs }
 {
-    match pairs {
-        Some(pairs) => Ok(pairs),
-        None => Err(Refusal::ReachTooLarge),
-    }
+    pairs.ok_or(Refusal::ReachTooLarge)
 }
 
 // How many places the chart keeps.
 pub fn kept_by(answer: Result<u16, Refusal>) -> u16
     ensures { result ≡ kept_by answer }
 {
-    match answer {
-        Ok(pairs) => pairs,
-        Err(_) => 0,
-    }
-}
-
-// The head of the chart, if one stands.
-pub fn head_of<M: Map>(map: &M, asked: Asked, answer: Result<u16, Refusal>) -> Option<Chart>
-    ensures { result ≡ head_of (M.Map.site map.now) asked answer }
-{
-    match answer {
-        Ok(pairs) => Some(Chart {
-            reel: asked.reel,
-            aim: asked.aim,
-            pairs,
-            points: map.points(),
-        }),
-        Err(_) => None,
-    }
+    answer.unwrap_or(0)
 }
 
 // A place with no pair.

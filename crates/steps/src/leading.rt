@@ -11,7 +11,7 @@ use kinds::lane::Lane;
 pub fn has_room(found: u16, places: usize) -> bool
     ensures { Decides result (found < places) }
 {
-    (found as usize) < places
+    usize::from(found) < places
 }
 
 // The lane number after this one; the highest stays.
@@ -39,13 +39,11 @@ pub fn led<C: Class, K: Cost>(
 ) -> Option<Pair<C, K>>
     ensures { Leads C.Class from.now lane hand cost result }
 {
-    match from.class.after(lane.crossing) {
-        None => None,
-        Some(class) => Some(Pair {
-            point: lane.to,
-            class,
-            cost,
-            link: Some(hand),
-        }),
-    }
+    let class = from.class.after(lane.crossing)?;
+    Some(Pair {
+        point: lane.to,
+        class,
+        cost,
+        link: Some(hand),
+    })
 }

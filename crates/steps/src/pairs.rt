@@ -35,8 +35,9 @@ impl<C: Class, K: Cost> Keys for Pairs<'_, C, K> {
     }
 
     fn holds(&self, place: u16, key: &Sought<C>) -> bool {
-        let at = place as usize;
-        at < self.found.len() && is_pair(&self.found[at], key.point, &key.class)
+        self.found
+            .get(usize::from(place))
+            .is_some_and(|pair| is_pair(pair, key.point, &key.class))
     }
 }
 

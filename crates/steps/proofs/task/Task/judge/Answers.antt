@@ -1,7 +1,7 @@
 use Rattle.std.proofs.Common.{sym, ◌∙◌, true≢false}
 use Rattle.steps.specs.Ends.{Judged}
 use Rattle.steps.proofs.Tests.{room_from_test}
-use Rattle.steps.proofs.judging.judge.Goals as goal
+use Rattle.steps.proofs.task.Task.judge.Goals as goal
 
 pub returns-then-is_pointless : goal.returns-then-is_pointless
 returns-then-is_pointless g c = Judged.pointless (c.is_pointless.ensures.0 c.if-is_pointless.true)
@@ -13,4 +13,4 @@ returns-then-is_too_long g c =
 pub returns : goal.returns
 returns g c =
     Judged.lawful (λ p. true≢false (sym (c.is_pointless.ensures.1 p) ∙ c.if-is_pointless.false))
-    (room_from_test c.is_too_long.result 1000000 c.args.asked.cable c.is_too_long.ensures c.if-is_too_long.false)
+    (room_from_test c.is_too_long.result 1000000 c.args.self.now.asked.cable c.is_too_long.ensures c.if-is_too_long.false)
