@@ -1,12 +1,14 @@
 -- The test of a pair, and the places that a search has passed.
-use Rattle.std.proofs.Common.{◌≡◌, ℕ, ◌+◌, ◌<◌, true, false, eqb, List, length, get_or, Ordering, Less, Equal, Greater, sym, ap, ◌∙◌, subst, inl, inr, arith}
+use Rattle.std.proofs.Common.{◌≡◌, ℕ, ◌<◌, ◌≤◌, true, eqb, List, length, Some, None, Option, Ordering, Less, Equal, Greater, sym, ap, ◌∙◌, inl, inr, arith}
 use Rattle.std.specs.Ordering.{is_eq}
-use Rattle.std.proofs.lemmas.Bool.{cases_eq, cases_order, cases_Bool, eqb-true, eq-eqb, false≢true}
+use Rattle.std.specs.List.{position, position_or_len}
+use Rattle.std.proofs.lemmas.Bool.{cases_order, cases_Bool, eqb-true, eq-eqb, false≢true}
+use Rattle.std.proofs.lemmas.List.Quantifiers.{position-Some}
+use Rattle.std.proofs.lemmas.List.Sums.{fails_before_first}
 use Rattle.kinds.specs.declared.class.Class.{Ghosts as Classes}
 use Rattle.charts.specs.declared.chart.Pair.{Pair}
-use Rattle.charts.specs.Charts.{Stands}
-use Rattle.charts.specs.Finding.{IsPair, is_pair, Matches, matches, Nowhere, FirstAt}
-use Rattle.charts.proofs.Stands.{stands_read, stands_some, stands_unique}
+use Rattle.charts.specs.Finding.{IsPair, is_pair, matches, Nowhere, FirstAt, Finds}
+use Rattle.charts.proofs.Stands.{stands_some}
 
 -- an answer that passes the test is `Equal`
 pub equal_of_is_eq : (r : Ordering) → is_eq r ≡ true → r ≡ Equal
@@ -29,26 +31,21 @@ module _ {C K : Type 0} (b : Classes C) (p : ℕ) (g : b.kind.Element) where
       simp t (ap (λ (h : b.kind.Element). is_eq (b.kind.order.cmp h g)) f ∙ ap is_eq (b.kind.order.itself g))
 
 module _ {C K : Type 0} (b : Classes C) (p : ℕ) (c : C) where
-  -- no place below n passes
-  abbrev pub Passed : List (Pair C K) → ℕ → Type 0
-  Passed xs n = (j : ℕ) (x : Pair C K) → j < n → Stands xs j x → Matches b p c x → ⊥
-
-  -- one place more does not pass
-  pub passed_more : (xs : List (Pair C K)) (n : ℕ) (y : Pair C K) → n < length xs → y ≡ get_or xs n y → matches b p c y ≡ false → Passed xs n → Passed xs (n + 1)
-  passed_more xs n y h is off before j x lt at m = elim (cases_eq j n) [
-    | inl e ↦
-        let same : x ≡ y = stands_unique xs n x y (subst (λ (i : ℕ). Stands xs i x) e at) (stands_read xs n y h is) in
-        false≢true (sym off ∙ passes_pair b p (b.element c) y (subst (Matches b p c) same m))
-    | inr ne ↦ before j x (omega arith) at m
-  ]
-
-  -- the first place that passes is found
-  pub found_here : (xs : List (Pair C K)) (n : ℕ) (y : Pair C K) → n < length xs → y ≡ get_or xs n y → matches b p c y ≡ true → Passed xs n → FirstAt b xs p c n
-  found_here xs n y h is on before = record {
-    below = h;
-    holds = λ x at. subst (Matches b p c) (stands_unique xs n y x (stands_read xs n y h is) at) (pair_passes b p (b.element c) y on);
-    first = before;
+  -- what `position` gives is the first place that passes
+  pub finds_position : (xs : List (Pair C K)) (o : Option ℕ) → o ≡ position (matches b p c) xs → Finds b xs p c o
+  finds_position xs None e = λ j x l at m. false≢true (sym (fails_before_first (matches b p c) xs j x (omega (arith, past))) ∙ ap (matches b p c) (at x) ∙ passes_pair b p (b.element c) x m)
+    where
+      past : length xs ≤ position_or_len (matches b p c) xs
+      past = grind arith
+  finds_position xs (Some i) e = record {
+    below = below xs i e;
+    holds = λ x at. pair_passes b p (b.element c) x (ap (matches b p c) (sym (at x)) ∙ (position-Some (matches b p c) xs i x (sym e)).1);
+    first = λ j x l at m.
+        false≢true (sym ((position-Some (matches b p c) xs i x (sym e)).2 j l) ∙ ap (matches b p c) (at x) ∙ passes_pair b p (b.element c) x m);
   }
+    where
+      below : (xs : List (Pair C K)) (i : ℕ) → Some i ≡ position (matches b p c) xs → i < length xs
+      below xs i e = grind arith
 
   -- a pair that stands nowhere has no first place
   pub nowhere_first : (xs : List (Pair C K)) (i : ℕ) → Nowhere b xs p c → FirstAt b xs p c i → ⊥

@@ -1,15 +1,17 @@
 -- Runs along links: from one place there is one at most, and it is no longer than there are places.
-use Rattle.std.proofs.Common.{◌≡◌, ℕ, zero, suc, ◌+◌, ◌-◌, ◌<◌, ◌≤◌, true, false, ltb, List, [], ◌∷◌, ◌++◌, reverse, length, get_or, drop, set, Some, None, Option, sym, refl, ap, ◌∙◌, subst, inl, inr, arith}
-use Rattle.std.proofs.lemmas.List.{append-nil, append_assoc, reverse-append, length-drop, length-append, length_push, length-set, drop_all, drop-set}
+use Rattle.std.proofs.Common.{◌≡◌, ℕ, zero, suc, ◌+◌, ◌<◌, ◌≤◌, false, ltb, List, [], ◌∷◌, ◌++◌, length, get_or, take, drop, set, Some, None, Ok, Err, Option, Result, MatchOption, sym, refl, ap, ◌∙◌, subst, inl, inr, arith}
+use Rattle.std.specs.Option.{ok_or}
+use Rattle.std.proofs.lemmas.Option.{MatchOption-at_some}
+use Rattle.std.proofs.lemmas.List.{length-drop, length-set, get_or_default, drop_more, take_all, take_more, take_more_set}
 use Rattle.std.proofs.lemmas.Bool.{cases_Bool, cond-true, cond-false, ltb-true, lt-ltb, false≢true}
+use Rattle.kinds.specs.declared.refusal.Refusal.{Refusal}
+use Rattle.kinds.specs.declared.refusal.Refusal.TheVariants.{NoRun}
 use Rattle.kinds.specs.declared.class.Class.{Ghosts as Classes}
 use Rattle.tables.proofs.Pigeonholes.{pigeonhole}
 use Rattle.charts.specs.declared.chart.Pair.{Pair}
 use Rattle.charts.specs.Charts.{Stands}
-use Rattle.charts.specs.declared.runs.Next.{Next}
-use Rattle.charts.specs.declared.runs.Next.TheVariants as next
-use Rattle.charts.specs.Finding.{Nowhere, FirstAt}
-use Rattle.charts.specs.Trails.{on_link, place_after, Home, is_home, next_of, Leads, Counts, Runs}
+use Rattle.charts.specs.Finding.{Finds}
+use Rattle.charts.specs.Trails.{on_link, Home, is_home, next_of, Leads, Counts, RunsIn}
 use Rattle.charts.proofs.Searches.{pair_passes, passes_pair, nowhere_first, first_once}
 use Rattle.charts.proofs.Stands.{none_below, stands_unique}
 
@@ -92,59 +94,29 @@ module _ {C K : Type 0} (b : Classes C) (reel : ℕ) (xs : List (Pair C K)) wher
   leads_rest i x (p ∷ (q ∷ ps)) at off (y, l, a, e, f, (j, n, h)) =
       (j, (q ∷ ps), ap (λ (z : Pair C K). z.link) (stands_unique xs i x y at a) ∙ n, h, omega arith)
 
-  -- a pair that leads home is home
-  pub next_home : (n : ℕ) (x : Pair C K) → next_of b reel n x ≡ next.Home → Home b reel x
-  next_home n x e = elim (cases_Bool (is_home b reel x)) [
-    | inl t ↦ pair_passes b reel b.kind.unit x t
-    | inr t ↦ absurd (link n x.link (simp t at e))
-  ]
-    where
-      link : (n : ℕ) (o : Option ℕ) → on_link n o ≡ next.Home → ⊥
-      link n None e = let z : ◌≡◌ {A = ℕ} 0 1 = cc in omega arith
-      link n (Some j) e = elim (cases_Bool (ltb j n)) [
-        | inl t ↦ (let f : next.To j ≡ next.Home = simp t at e in let z : ◌≡◌ {A = ℕ} 0 1 = cc in omega arith)
-        | inr t ↦ (let f : next.Nowhere ≡ next.Home = simp t at e in let z : ◌≡◌ {A = ℕ} 0 1 = cc in omega arith)
-      ]
-
   -- what does not pass the test is not home
   pub off_home : (x : Pair C K) → is_home b reel x ≡ false → Home b reel x → ⊥
   off_home x t h = false≢true (sym t ∙ passes_pair b reel b.kind.unit x h)
 
-  -- one that leads to a place is not home, and its link names the place
-  pub next_to : (n j : ℕ) (x : Pair C K) → next_of b reel n x ≡ next.To j → (Home b reel x → ⊥) × (x.link ≡ Some j) × (j < n)
-  next_to n j x e = elim (cases_Bool (is_home b reel x)) [
-    | inl t ↦ (let f : next.Home ≡ next.To j = simp t at e in let z : ◌≡◌ {A = ℕ} 0 1 = cc in absurd (omega arith))
-    | inr t ↦ let (f, l) = link x.link (simp t at e) in (off_home x t, f, l)
+  -- what it says of a pair that it leads to s among n places: it is home; it is not, and its link names the place; or names none
+  abbrev pub Next : ℕ → Pair C K → Result (Option ℕ) Refusal → Type 0
+  Next n x (Ok None) = Home b reel x
+  Next n x (Ok (Some j)) = (Home b reel x → ⊥) × (x.link ≡ Some j) × (j < n)
+  Next n x (Err e) = (e ≡ NoRun) × (Home b reel x → ⊥) × ((j : ℕ) → x.link ≡ Some j → j < n → ⊥)
+
+  pub next_says : (n : ℕ) (x : Pair C K) → Next n x (next_of b reel n x)
+  next_says n x = elim (cases_Bool (is_home b reel x)) [
+    | inl t ↦ subst (Next n x) (sym (cond-true (is_home b reel x) (Ok None) (on_link n x.link) t)) (pair_passes b reel b.kind.unit x t)
+    | inr t ↦ subst (Next n x) (sym (cond-false (is_home b reel x) (Ok None) (on_link n x.link) t)) (link (off_home x t) x.link refl)
   ]
     where
-      link : (o : Option ℕ) → on_link n o ≡ next.To j → (o ≡ Some j) × (j < n)
-      link None e = let z : ◌≡◌ {A = ℕ} 0 1 = cc in absurd (omega arith)
-      link (Some i) e = elim (cases_Bool (ltb i n)) [
-        | inl t ↦ (let f : next.To i ≡ next.To j = simp t at e in let same : i ≡ j = cc in (ap Some same, subst (λ (k : ℕ). k < n) same (ltb-true i n t)))
-        | inr t ↦ (let f : next.Nowhere ≡ next.To j = simp t at e in let z : ◌≡◌ {A = ℕ} 0 1 = cc in absurd (omega arith))
+      link : (Home b reel x → ⊥) → (o : Option ℕ) → x.link ≡ o → Next n x (on_link n o)
+      link off None e = (refl, off, λ j f l. cc)
+      link off (Some j) e = elim (cases_Bool (ltb j n)) [
+        | inl t ↦ subst (Next n x) (sym (cond-true (ltb j n) (Ok (Some j)) (Err NoRun) t)) (off, e, ltb-true j n t)
+        | inr t ↦ subst (Next n x) (sym (cond-false (ltb j n) (Ok (Some j)) (Err NoRun) t))
+            (refl, off, λ k f l. false≢true (sym t ∙ lt-ltb j n (subst (λ (i : ℕ). i < n) (some_same k j (sym f ∙ e)) l)))
       ]
-
-  -- a pair that is not home leads where its link says
-  pub to_next : (n j : ℕ) (x : Pair C K) → (Home b reel x → ⊥) → x.link ≡ Some j → j < n → next_of b reel n x ≡ next.To j
-  to_next n j x off e l = elim (cases_Bool (is_home b reel x)) [
-    | inl t ↦ absurd (off (pair_passes b reel b.kind.unit x t))
-    | inr t ↦
-        cond-false (is_home b reel x) next.Home (on_link n x.link) t ∙ ap (on_link n) e
-        ∙ cond-true (ltb j n) (next.To j) next.Nowhere (lt-ltb j n l)
-  ]
-
-  -- one that leads nowhere is not home, and its link names no place
-  pub next_nowhere : (n : ℕ) (x : Pair C K) → next_of b reel n x ≡ next.Nowhere → (Home b reel x → ⊥) × ((j : ℕ) → x.link ≡ Some j → j < n → ⊥)
-  next_nowhere n x e = elim (cases_Bool (is_home b reel x)) [
-    | inl t ↦ (let f : next.Home ≡ next.Nowhere = simp t at e in let z : ◌≡◌ {A = ℕ} 0 1 = cc in absurd (omega arith))
-    | inr t ↦ (off_home x t, λ j l lt. link j lt (ap (on_link n) (sym l) ∙ simp t at e))
-  ]
-    where
-      link : (j : ℕ) → j < n → on_link n (Some j) ≡ next.Nowhere → ⊥
-      link j lt e =
-          let t : ltb j n ≡ true = lt-ltb j n lt in
-          let f : next.To j ≡ next.Nowhere = simp t at e in
-          let z : ◌≡◌ {A = ℕ} 0 1 = cc in omega arith
 
   -- after n links from i the place is j: runs from there are the rest of runs from i
   pub record Comes (i n j : ℕ) : Type 0 where
@@ -155,118 +127,106 @@ module _ {C K : Type 0} (b : Classes C) (reel : ℕ) (xs : List (Pair C K)) wher
   pub comes_none : (i : ℕ) → Comes i 0 i
   comes_none i = record { on = λ ps h. (ps, h, omega arith); back = λ qs h. (qs, h, omega arith) }
 
-  module _ (i n j : ℕ) (x : Pair C K) (so : Comes i n j) (here : j < length xs) (at : Stands xs j x) where
+  module _ (i n j : ℕ) (d : Pair C K) (so : Comes i n j) (here : j < length xs) where
+    abbrev at_place : Pair C K
+    at_place = get_or xs j d
+
+    stands : Stands xs j at_place
+    stands e = get_or_default xs j e d here
+
+    says : (r : Result (Option ℕ) Refusal) → r ≡ next_of b reel (length xs) at_place → Next (length xs) at_place r
+    says r e = subst (Next (length xs) at_place) (sym e) (next_says (length xs) at_place)
+
     -- one link more
-    pub comes_more : (k : ℕ) → next_of b reel (length xs) x ≡ next.To k → (k < length xs) × Comes i (n + 1) k
+    pub comes_more : (k : ℕ) → Ok (Some k) ≡ next_of b reel (length xs) at_place → (k < length xs) × Comes i (n + 1) k
     comes_more k e =
-        let (off, link, l) = next_to (length xs) k x e in (
+        let (off, link, l) = says (Ok (Some k)) e in (
           l,
           record {
-            on = λ ps h. let (qs, h', len) = so.on (x.point ∷ ps) (leads_on j k x ps here at off link h) in (qs, h', omega arith);
+            on = λ ps h. let (qs, h', len) = so.on (at_place.point ∷ ps) (leads_on j k at_place ps here stands off link h) in (qs, h', omega arith);
             back = λ qs h.
                 let (ps, h', len) = so.back qs h in
-                let (k', rs, link', h'', more) = leads_rest j x ps at off h' in
+                let (k', rs, link', h'', more) = leads_rest j at_place ps stands off h' in
                 (rs, subst (λ (z : ℕ). Leads b reel xs z rs) (some_same k' k (sym link' ∙ link)) h'', omega arith);
           },
         )
 
     -- home is reached
-    pub comes_home : next_of b reel (length xs) x ≡ next.Home → Counts b reel xs i (Some (n + 1))
-    comes_home e = let (qs, h, len) = so.on (x.point ∷ []) (x, here, at, refl, next_home (length xs) x e) in (qs, h, omega arith)
+    pub comes_home : Ok None ≡ next_of b reel (length xs) at_place → Counts b reel xs i (Ok (n + 1))
+    comes_home e = let (qs, h, len) = so.on (at_place.point ∷ []) (at_place, here, stands, refl, says (Ok None) e) in (qs, h, omega arith)
 
     -- the links lead nowhere
-    pub comes_nowhere : next_of b reel (length xs) x ≡ next.Nowhere → Counts b reel xs i None
-    comes_nowhere e qs h =
-        let (off, none) = next_nowhere (length xs) x e in
-        let (ps, h', len) = so.back qs h in
-        let (k, rs, link, h'', more) = leads_rest j x ps at off h' in
-        none k link (leads_here k rs h'').1
+    pub comes_nowhere : (r : Refusal) → Err r ≡ next_of b reel (length xs) at_place → Counts b reel xs i (Err r)
+    comes_nowhere r e =
+        let (is, off, none) = says (Err r) e in (
+          is,
+          λ qs h.
+              let (ps, h', len) = so.back qs h in
+              let (k, rs, link, h'', more) = leads_rest j at_place ps stands off h' in
+              none k link (leads_here k rs h'').1,
+        )
 
   -- as many links as there are places without coming home: they lead round in a circle
-  pub comes_round : (i n j : ℕ) → Comes i n j → length xs ≤ n → Counts b reel xs i None
-  comes_round i n j so l qs h =
-      let (ps, h', len) = so.back qs h in
-      omega (arith, leads_short i qs h, leads_some j ps h')
+  pub comes_round : (i n j : ℕ) → Comes i n j → length xs ≤ n → Counts b reel xs i (Err NoRun)
+  comes_round i n j so l = (refl, λ qs h. let (ps, h', len) = so.back qs h in omega (arith, leads_short i qs h, leads_some j ps h'))
 
-  -- from the place i the points are those, if there are any
-  abbrev pub Onward : ℕ → List ℕ → Type 0
-  Onward i [] = Unit {0}
-  Onward i (p ∷ ps) = Leads b reel xs i (p ∷ ps)
-
-  -- after n points of the run from i, the last places of the buffer hold them, and the rest begins at j
-  abbrev pub Written : ℕ → ℕ → ℕ → List ℕ → Type 0
-  Written i n j buffer =
-      (done : List ℕ) × (rest : List ℕ) × Leads b reel xs i (done ++ rest) × (length done ≡ n) × (length (done ++ rest) ≡ length buffer) × Onward j rest
-      × (drop (length buffer - n) buffer ≡ reverse done)
+  -- the first n points of the run from i are written, and the rest begins at j
+  pub record Written (i n j : ℕ) (buffer : List ℕ) : Type 0 where
+    pub points : List ℕ
+    pub leads : Leads b reel xs i points
+    pub long : length points ≡ length buffer
+    pub done : take n buffer ≡ take n points
+    pub rest : n < length buffer → Leads b reel xs j (drop n points)
+    pub below : n < length buffer → j < length xs
 
   -- no point is written yet
-  pub written_none : (i : ℕ) (ps buffer : List ℕ) → Leads b reel xs i ps → length ps ≡ length buffer → Written i 0 i buffer
-  written_none i [] buffer h e = absurd h
-  written_none i (p ∷ ps) buffer h e = ([], (p ∷ ps), h, refl, e, h, drop_all (length buffer - 0) buffer (omega arith))
+  pub written_none : (i : ℕ) (buffer : List ℕ) → Counts b reel xs i (Ok (length buffer)) → Written i 0 i buffer
+  written_none i buffer (ps, h, e) = record { points = ps; leads = h; long = e; done = refl; rest = λ _. h; below = λ _. (leads_here i ps h).1 }
 
-  module _ (i n j : ℕ) (buffer : List ℕ) (so : Written i n j buffer) (l : n < length buffer) where
-    -- what is left begins with a place
-    pub written_here : j < length xs
-    written_here = go so.0 so.1 so.3 so.4 so.5
+  -- one point more
+  module _ (i n j : ℕ) (buffer : List ℕ) (d : Pair C K) (so : Written i n j buffer) (l : n < length buffer) where
+    abbrev read : Pair C K
+    read = get_or xs j d
+
+    pub written_more : (k : ℕ) → MatchOption read.link (k ≡ j) (λ m. k ≡ m) → Written i (n + 1) k (set buffer n read.point)
+    written_more k next = record {
+      points = so.points;
+      leads = so.leads;
+      long = so.long ∙ sym (length-set buffer n read.point);
+      done =
+          take_more_set buffer n read.point l ∙ (λ w. so.done w ++ (point (get_or so.points n 0) (drop (n + 1) so.points) rest w ∷ []))
+          ∙ sym (take_more so.points n 0 (omega (arith, so.long)));
+      rest = λ m. onward (drop (n + 1) so.points) (omega (arith, so.long, length-set buffer n read.point, length-drop (n + 1) so.points)) rest;
+      below = λ m. (leads_here k (drop (n + 1) so.points) (onward (drop (n + 1) so.points) (omega (arith, so.long, length-set buffer n read.point, length-drop (n + 1) so.points)) rest)).1;
+    }
       where
-        go : (done rest : List ℕ) → length done ≡ n → length (done ++ rest) ≡ length buffer → Onward j rest → j < length xs
-        go done [] e f o = absurd (omega (arith, length-append done []))
-        go done (p ∷ ps) e f o = (leads_here j (p ∷ ps) o).1
+        rest : Leads b reel xs j (get_or so.points n 0 ∷ drop (n + 1) so.points)
+        rest = subst (Leads b reel xs j) (drop_more so.points n 0 (omega (arith, so.long))) (so.rest l)
 
-    -- one point more
-    pub written_more : (at : ℕ) (x : Pair C K) → at + n + 1 ≡ length buffer → Stands xs j x → Written i (n + 1) (place_after (next_of b reel (length xs) x) j) (set buffer at x.point)
-    written_more at x last stands = go so.0 so.1 so.2 so.3 so.4 so.5 so.6
-      where
-        go : (done rest : List ℕ) → Leads b reel xs i (done ++ rest) → length done ≡ n → length (done ++ rest) ≡ length buffer → Onward j rest → drop (length buffer - n) buffer ≡ reverse done →
-            Written i (n + 1) (place_after (next_of b reel (length xs) x) j) (set buffer at x.point)
-        go done [] h e f o w = absurd (omega (arith, length-append done []))
-        go done (p ∷ ps) h e f o w =
-            let grown : (done ++ (p ∷ [])) ++ ps ≡ done ++ (p ∷ ps) = append_assoc done (p ∷ []) ps in (
-              done ++ (p ∷ []),
-              ps,
-              subst (Leads b reel xs i) (sym grown) h,
-              length_push done p ∙ ap (λ (k : ℕ). k + 1) e,
-              ap length grown ∙ f ∙ sym (length-set buffer at x.point),
-              onward p ps o,
-              behind p ps o,
-            )
-          where
-            onward : (p : ℕ) (ps : List ℕ) → Leads b reel xs j (p ∷ ps) → Onward (place_after (next_of b reel (length xs) x) j) ps
-            onward p [] o = tt
-            onward p (q ∷ ps) (y, m, a, d, off, (k, link, h)) =
-                let there : next_of b reel (length xs) x ≡ next.To k =
-                ap (next_of b reel (length xs)) (stands_unique xs j x y stands a) ∙ to_next (length xs) k y off link (leads_here k (q ∷ ps) h).1 in
-                subst (λ (s : Next). Leads b reel xs (place_after s j) (q ∷ ps)) (sym there) h
+        point : (p : ℕ) (ps : List ℕ) → Leads b reel xs j (p ∷ ps) → read.point ≡ p
+        point p [] (y, lt, a, e, home) = ap (λ (z : Pair C K). z.point) (a d) ∙ e
+        point p (q ∷ ps) (y, lt, a, e, off, f) = ap (λ (z : Pair C K). z.point) (a d) ∙ e
 
-            point : (p : ℕ) (ps : List ℕ) → Leads b reel xs j (p ∷ ps) → x.point ≡ p
-            point p [] (y, m, a, d, home) = ap (λ (z : Pair C K). z.point) (stands_unique xs j x y stands a) ∙ d
-            point p (q ∷ ps) (y, m, a, d, off, k) = ap (λ (z : Pair C K). z.point) (stands_unique xs j x y stands a) ∙ d
-
-            behind : (p : ℕ) (ps : List ℕ) → Leads b reel xs j (p ∷ ps) → drop (length (set buffer at x.point) - (n + 1)) (set buffer at x.point) ≡ reverse (done ++ (p ∷ []))
-            behind p ps o =
-                let here : length (set buffer at x.point) - (n + 1) ≡ at = omega (arith, length-set buffer at x.point) in
-                let next : at + 1 ≡ length buffer - n = omega arith in
-                ap (λ (k : ℕ). drop k (set buffer at x.point)) here
-                ∙ drop-set buffer at x.point (omega arith)
-                ∙ ap (λ (k : ℕ). x.point ∷ drop k buffer) next
-                ∙ ap (λ (ys : List ℕ). x.point ∷ ys) w
-                ∙ ap (λ (q : ℕ). q ∷ reverse done) (point p ps o)
-                ∙ sym (reverse-append done (p ∷ []))
+        onward : (ps : List ℕ) → 0 < length ps → Leads b reel xs j (get_or so.points n 0 ∷ ps) → Leads b reel xs k ps
+        onward [] m h = absurd (none_below 0 m)
+        onward (q ∷ ps) m (y, lt, a, e, off, (f, link, h)) =
+            subst (λ (z : ℕ). Leads b reel xs z (q ∷ ps)) (sym (MatchOption-at_some (k ≡ j) (λ m. k ≡ m) f (ap (λ (z : Pair C K). z.link) (a d) ∙ link) next)) h
 
   -- all points are written
-  pub written_all : (i n j : ℕ) (buffer : List ℕ) → Written i n j buffer → n ≡ length buffer → (ps : List ℕ) × Leads b reel xs i ps × (buffer ≡ reverse ps)
-  written_all i n j buffer (done, [], h, e, f, o, w) l = (done, subst (Leads b reel xs i) (append-nil done) h, ap (λ (k : ℕ). drop k buffer) none ∙ w)
-    where
-      none : 0 ≡ length buffer - n
-      none = omega arith
-  written_all i n j buffer (done, (p ∷ ps), h, e, f, o, w) l = absurd (omega (arith, length-append done (p ∷ ps)))
+  pub written_all : (i n j : ℕ) (buffer : List ℕ) → Written i n j buffer → length buffer ≤ n → Leads b reel xs i buffer
+  written_all i n j buffer so l =
+      subst (Leads b reel xs i) (sym (take_all n so.points (omega (arith, so.long))) ∙ sym so.done ∙ take_all n buffer l) so.leads
 
 -- the run of a pair
-module _ {C K : Type 0} (b : Classes C) (reel : ℕ) (xs : List (Pair C K)) (p : ℕ) (c : C) where
+module _ {C K : Type 0} (b : Classes C) (reel : ℕ) (xs : List (Pair C K)) (p : ℕ) (c : C) (from : List ℕ) where
   -- a pair that stands nowhere has none
-  pub nowhere_runs : Nowhere b xs p c → (i : ℕ) (ps : List ℕ) → Runs b reel xs p c i ps → ⊥
-  nowhere_runs none i ps (f, h) = nowhere_first b p c xs i none f
+  pub nowhere_runs : (o : Option ℕ) (e : Refusal) → Finds b xs p c o → Err e ≡ ok_or o NoRun → RunsIn b reel xs p c from from (Err e)
+  nowhere_runs None e none is = (refl, inl (cc, λ i ps (f, h). nowhere_first b p c xs i none f))
+  nowhere_runs (Some i) e f is = absurd (let z : ◌≡◌ {A = ℕ} 0 1 = cc in omega arith)
 
   -- nor one whose first place does not lead home
-  pub lost_runs : (j : ℕ) → FirstAt b xs p c j → Counts b reel xs j None → (i : ℕ) (ps : List ℕ) → Runs b reel xs p c i ps → ⊥
-  lost_runs j f none i ps (f', h) = none ps (subst (λ (k : ℕ). Leads b reel xs k ps) (first_once b p c xs i j f' f) h)
+  pub lost_runs : (o : Option ℕ) (i : ℕ) (e : Refusal) → Finds b xs p c o → Ok i ≡ ok_or o NoRun → Counts b reel xs i (Err e) → RunsIn b reel xs p c from from (Err e)
+  lost_runs None i e none is lost = absurd (let z : ◌≡◌ {A = ℕ} 0 1 = cc in omega arith)
+  lost_runs (Some j) i e f is (no-run, none) =
+      let same : j ≡ i = cc in
+      (refl, inl (no-run, λ k ps (f', h). none ps (subst (λ (m : ℕ). Leads b reel xs m ps) (first_once b p c xs k j f' f ∙ same) h)))

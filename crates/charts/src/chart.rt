@@ -12,12 +12,19 @@ pub struct Pair<C, K> {
 
 // The head of a chart: the first `pairs` of its places count. A chart with an aim covers the aim alone,
 // one without covers every point below `points`.
-#[derive(Clone, Copy)]
+#[derive(Clone, Copy, PartialEq, Eq, Debug)]
 pub struct Chart {
     pub reel: u16,
     pub aim: Option<u16>,
     pub pairs: u16,
     pub points: u16,
+}
+
+// A chart as it is asked: its head, if one stands, and all its places.
+#[derive(Clone, Copy)]
+pub struct Charted<'a, C, K> {
+    pub head: Option<Chart>,
+    pub places: &'a [Pair<C, K>],
 }
 
 // A class of the list at a point, and the cost of its cheapest run.

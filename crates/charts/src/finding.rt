@@ -10,12 +10,7 @@ use kinds::cost::Cost;
 pub fn first_place<C: Class, K: Cost>(pairs: &[Pair<C, K>], point: u16, class: &C) -> Option<usize>
     ensures { Finds C.Class pairs.now point class.now result }
 {
-    for (place, pair) in pairs.iter().enumerate() {
-        if is_pair(pair, point, class) {
-            return Some(place);
-        }
-    }
-    None
+    pairs.iter().position(|pair| is_pair(pair, point, class))
 }
 
 // Whether a pair is that of the point and the class.

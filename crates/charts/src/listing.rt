@@ -1,13 +1,12 @@
 // The list at a point: the classes in which a cable can lie there, each with its cost, cheapest first.
-ghost use Rattle.std.specs.Prelude.{◌≡◌, ◌+◌, ◌^◌, ◌<◌, ◌≤◌, ◌++◌, length, drop, if◌then◌else◌, slice_set};
+ghost use Rattle.std.specs.Prelude.{◌≡◌, length, filter};
 ghost use Rattle.std.specs.List.Sorted.{IsPermutation};
 ghost use Rattle.tables.specs.Queues.{Ascending};
 ghost use Rattle.charts.specs.Ranks.{by_cost};
 ghost use Rattle.charts.specs.Listed.{ListsTruly};
 ghost use Rattle.charts.specs.Listing.{is_at, priced, priced_at, ListsIn, ListsAt};
 
-use crate::asking::asked_at;
-use crate::chart::{Chart, Pair, Priced};
+use crate::chart::{Charted, Pair, Priced};
 use kinds::class::Class;
 use kinds::cost::Cost;
 use kinds::refusal::Refusal;
@@ -43,14 +42,6 @@ fn price_of<C: Class, K: Cost>(pair: &Pair<C, K>) -> Priced<C, K>
     }
 }
 
-// One more, if there is one here.
-fn tally(count: usize, here: bool) -> usize
-    requires { count + 1 < 2 ^ 64 }
-    ensures { result ≡ count + (if here then 1 else 0) }
-{
-    if here { count + 1 } else { count }
-}
-
 // Puts a list in order.
 fn put_in_order<C: Class, K: Cost>(items: &mut [Priced<C, K>])
     ensures items { IsPermutation items.old items.new }
@@ -61,33 +52,20 @@ fn put_in_order<C: Class, K: Cost>(items: &mut [Priced<C, K>])
 
 // How many pairs are at the point.
 fn count_at<C: Class, K: Cost>(pairs: &[Pair<C, K>], point: u16) -> usize
-    ensures { result ≡ length (priced_at point pairs.now) }
+    ensures { result ≡ length (filter (is_at point) pairs.now) }
 {
-    let mut count = 0;
-    for pair in pairs {
-        count = tally(count, is_at(pair, point));
-    }
-    count
+    pairs.iter().filter(|pair| is_at(pair, point)).count()
 }
 
-// Writes one place of the list.
-fn put<C: Class, K: Cost>(list: &mut [Priced<C, K>], place: usize, item: Priced<C, K>)
-    requires { place < length list.old }
-    ensures { list.new ≡ slice_set list.old place item }
-{
-    list[place] = item;
-}
-
-// Writes the pairs at the point from the first place of the list on, in their order.
+// Writes the pairs at the point, in their order, to a list that has a place for each.
 fn write_at<C: Class, K: Cost>(pairs: &[Pair<C, K>], point: u16, list: &mut [Priced<C, K>])
-    requires { length (priced_at point pairs.now) ≤ length list.old }
-    ensures { list.new ≡ priced_at point pairs.now ++ drop (length (priced_at point pairs.now)) list.old }
+    requires { length list.old ≡ length (priced_at point pairs.now) }
+    ensures { list.new ≡ priced_at point pairs.now }
 {
-    let mut count = 0;
-    for pair in pairs {
-        if is_at(pair, point) {
-            put(list, count, price_of(pair));
-            count += 1;
+    let mut rest = pairs.iter();
+    for item in list.iter_mut() {
+        if let Some(pair) = rest.find(|pair| is_at(pair, point)) {
+            *item = price_of(pair);
         }
     }
 }
@@ -104,34 +82,27 @@ fn list_in<C: Class, K: Cost>(
     if list.len() < count {
         return Err(Refusal::TooShort);
     }
-    write_at(pairs, point, list);
-    put_in_order(&mut list[0..count]);
+    let listed = &mut list[..count];
+    write_at(pairs, point, listed);
+    put_in_order(listed);
     Ok(count)
 }
 
-// Lists the counted pairs at the point, if the chart may be asked there.
-fn list_asked<C: Class, K: Cost>(
-    chart: &Option<Chart>,
-    places: &[Pair<C, K>],
-    point: u16,
-    list: &mut [Priced<C, K>],
-) -> Result<usize, Refusal>
-    ensures { ListsAt C.Class K.Cost chart.now places.now point list.old list.new result }
-{
-    let head = asked_at(chart, places.len(), point)?;
-    list_in(&places[0..usize::from(head.pairs)], point, list)
-}
+impl<C: Class, K: Cost> Charted<'_, C, K> {
+    // Lists the classes in which a cable can lie at the point, and says how many they are.
+    // Refused if the chart cannot be asked there, or if the list is too short; then nothing is written.
+    pub fn list(&self, point: u16, list: &mut [Priced<C, K>]) -> Result<usize, Refusal>
+        ensures answer { ListsAt C.Class K.Cost self.now.head self.now.places.now point list.old list.new result }
+        ensures exact { ListsTruly C.Class K.Cost self.now.head self.now.places.now point list.new result }
+    {
+        self.list_asked(point, list)
+    }
 
-// Lists the classes in which a cable can lie at the point, and says how many they are.
-// Refused if the chart cannot be asked there, or if the list is too short; then nothing is written.
-pub fn list<C: Class, K: Cost>(
-    chart: &Option<Chart>,
-    places: &[Pair<C, K>],
-    point: u16,
-    list: &mut [Priced<C, K>],
-) -> Result<usize, Refusal>
-    ensures answer { ListsAt C.Class K.Cost chart.now places.now point list.old list.new result }
-    ensures exact { ListsTruly C.Class K.Cost chart.now places.now point list.new result }
-{
-    list_asked(chart, places, point, list)
+    // Lists the counted pairs at the point, if the chart may be asked there.
+    fn list_asked(&self, point: u16, list: &mut [Priced<C, K>]) -> Result<usize, Refusal>
+        ensures { ListsAt C.Class K.Cost self.now.head self.now.places.now point list.old list.new result }
+    {
+        let head = self.asked_at(point)?;
+        list_in(&self.places[..usize::from(head.pairs)], point, list)
+    }
 }

@@ -1,154 +1,112 @@
 // The run of a pair: the points through which the links of the chart lead from it back to the reel.
-ghost use Rattle.std.specs.Prelude.{◌≡◌, ◌+◌, ◌<◌, length, Some};
+ghost use Rattle.std.specs.Prelude.{◌≡◌, ◌<◌, length, Ok};
 ghost use Rattle.charts.specs.Laid.{LaysTruly};
-ghost use Rattle.charts.specs.Trails.{is_home, next_of, place_after, Counts, Reversed, RunsIn, WritesRun};
+ghost use Rattle.charts.specs.Trails.{is_home, next_of, Leads, Counts, Reversed, RunsIn, WritesRun};
 
-use crate::asking::asked_at;
-use crate::chart::{Chart, Pair};
+use crate::chart::{Charted, Pair};
 use crate::finding::{first_place, is_pair};
 use kinds::class::Class;
 use kinds::cost::Cost;
 use kinds::refusal::Refusal;
 
-// Where a pair leads: it is the reel with the unit; or its link names a place; or it leads nowhere.
+// The pairs that count, and the reel to which their links lead.
 #[derive(Clone, Copy)]
-enum Next {
-    Home,
-    To(u16),
-    Nowhere,
+struct Links<'a, C, K> {
+    pairs: &'a [Pair<C, K>],
+    reel: u16,
 }
 
-// Whether a pair is the reel with the unit.
-fn is_home<C: Class, K: Cost>(pair: &Pair<C, K>, reel: u16) -> bool
-    ensures { result ≡ is_home C.Class reel pair.now }
-{
-    is_pair(pair, reel, &C::unit())
-}
-
-// Where a pair leads among so many places.
-fn next_of<C: Class, K: Cost>(pair: &Pair<C, K>, reel: u16, places: usize) -> Next
-    ensures { result ≡ next_of C.Class reel places pair.now }
-{
-    if is_home(pair, reel) {
-        return Next::Home;
+impl<C: Class, K: Cost> Links<'_, C, K> {
+    // Whether a pair is the reel with the unit.
+    fn is_home(&self, pair: &Pair<C, K>) -> bool
+        ensures { result ≡ is_home C.Class self.now.reel pair.now }
+    {
+        is_pair(pair, self.reel, &C::unit())
     }
-    match pair.link {
-        None => Next::Nowhere,
-        Some(before) => if usize::from(before) < places {
-            Next::To(before)
-        } else {
-            Next::Nowhere
-        },
-    }
-}
 
-// The place to go on from: where the pair at `place` leads, or `place` itself if it leads to none.
-fn place_after(next: Next, place: usize) -> usize
-    ensures { result ≡ place_after next place }
-{
-    match next {
-        Next::To(before) => usize::from(before),
-        Next::Home | Next::Nowhere => place,
-    }
-}
-
-// The place that comes `count` places before the last of `len`.
-fn from_last(count: usize, len: usize) -> usize
-    requires { count < len }
-    ensures { result + count + 1 ≡ len }
-{
-    len - 1 - count
-}
-
-// How many points lead from a place home.
-fn count_points<C: Class, K: Cost>(pairs: &[Pair<C, K>], reel: u16, first: usize) -> Option<usize>
-    requires { first < length pairs.now }
-    ensures { Counts C.Class reel pairs.now first result }
-{
-    let mut place = first;
-    for count in 0..pairs.len() {
-        match next_of(&pairs[place], reel, pairs.len()) {
-            Next::Home => return Some(count + 1),
-            Next::To(before) => place = usize::from(before),
-            Next::Nowhere => return None,
+    // The place to which a pair leads, none from home; refused if it leads nowhere.
+    fn next_of(&self, pair: &Pair<C, K>) -> Result<Option<u16>, Refusal>
+        ensures { result ≡ next_of C.Class self.now.reel (length self.now.pairs.now) pair.now }
+    {
+        if self.is_home(pair) {
+            return Ok(None);
+        }
+        match pair.link {
+            Some(before) if usize::from(before) < self.pairs.len() => Ok(Some(before)),
+            _ => Err(Refusal::NoRun),
         }
     }
-    None
-}
 
-// Writes the points that lead from a place home, the last of them first.
-fn write_points<C: Class, K: Cost>(
-    pairs: &[Pair<C, K>],
-    reel: u16,
-    first: usize,
-    buffer: &mut [u16],
-)
-    requires { Counts C.Class reel pairs.now first (Some (length buffer.old)) }
-    ensures { Reversed C.Class reel pairs.now first buffer.new }
-{
-    let len = buffer.len();
-    let mut place = first;
-    for count in 0..len {
-        let pair = pairs[place];
-        buffer[from_last(count, len)] = pair.point;
-        place = place_after(next_of(&pair, reel, pairs.len()), place);
+    // How many points lead from a place home; refused if none do.
+    fn count_points(&self, first: usize) -> Result<usize, Refusal>
+        requires { first < length self.now.pairs.now }
+        ensures { Counts C.Class self.now.reel self.now.pairs.now first result }
+    {
+        let mut place = first;
+        for count in 0..self.pairs.len() {
+            match self.next_of(&self.pairs[place])? {
+                Some(before) => place = usize::from(before),
+                None => return Ok(count + 1),
+            }
+        }
+        Err(Refusal::NoRun)
+    }
+
+    // Writes the points that lead from a place home, in their order.
+    fn write_back(&self, first: usize, buffer: &mut [u16])
+        requires { Counts C.Class self.now.reel self.now.pairs.now first (Ok (length buffer.old)) }
+        ensures { Leads C.Class self.now.reel self.now.pairs.now first buffer.new }
+    {
+        let mut place = first;
+        for slot in buffer.iter_mut() {
+            let pair = self.pairs[place];
+            *slot = pair.point;
+            place = pair.link.map_or(place, usize::from);
+        }
+    }
+
+    // Writes the points that lead from a place home, the last of them first.
+    fn write_points(&self, first: usize, buffer: &mut [u16])
+        requires { Counts C.Class self.now.reel self.now.pairs.now first (Ok (length buffer.old)) }
+        ensures { Reversed C.Class self.now.reel self.now.pairs.now first buffer.new }
+    {
+        self.write_back(first, buffer);
+        buffer.reverse();
+    }
+
+    // Writes the run of a pair, if there is one and the buffer has room for it.
+    fn write_in(&self, point: u16, class: &C, buffer: &mut [u16]) -> Result<usize, Refusal>
+        ensures { RunsIn C.Class self.now.reel self.now.pairs.now point class.now buffer.old buffer.new result }
+    {
+        let first = first_place(self.pairs, point, class).ok_or(Refusal::NoRun)?;
+        let count = self.count_points(first)?;
+        if buffer.len() < count {
+            return Err(Refusal::TooShort);
+        }
+        self.write_points(first, &mut buffer[..count]);
+        Ok(count)
     }
 }
 
-// Writes the run of a pair, if there is one and the buffer has room for it.
-fn write_in<C: Class, K: Cost>(
-    pairs: &[Pair<C, K>],
-    reel: u16,
-    point: u16,
-    class: &C,
-    buffer: &mut [u16],
-) -> Result<usize, Refusal>
-    ensures { RunsIn C.Class reel pairs.now point class.now buffer.old buffer.new result }
-{
-    let Some(first) = first_place(pairs, point, class) else {
-        return Err(Refusal::NoRun);
-    };
-    let Some(count) = count_points(pairs, reel, first) else {
-        return Err(Refusal::NoRun);
-    };
-    if buffer.len() < count {
-        return Err(Refusal::TooShort);
+impl<C: Class, K: Cost> Charted<'_, C, K> {
+    // Writes the points of the run of a pair, the reel first, and says how many they are.
+    // Refused if the chart cannot be asked at the point, if it has no run of the pair, or if the buffer is too short; then nothing is written.
+    pub fn write_run(&self, point: u16, class: &C, buffer: &mut [u16]) -> Result<usize, Refusal>
+        ensures answer { WritesRun C.Class self.now.head self.now.places.now point class.now buffer.old buffer.new result }
+        ensures exact { LaysTruly C.Class K.Cost self.now.head self.now.places.now point class.now buffer.new result }
+    {
+        self.write_asked(point, class, buffer)
     }
-    write_points(pairs, reel, first, &mut buffer[0..count]);
-    Ok(count)
-}
 
-// Writes the run of a pair among those that count, if the chart may be asked at the point.
-fn write_asked<C: Class, K: Cost>(
-    chart: &Option<Chart>,
-    places: &[Pair<C, K>],
-    point: u16,
-    class: &C,
-    buffer: &mut [u16],
-) -> Result<usize, Refusal>
-    ensures { WritesRun C.Class chart.now places.now point class.now buffer.old buffer.new result }
-{
-    let head = asked_at(chart, places.len(), point)?;
-    write_in(
-        &places[0..usize::from(head.pairs)],
-        head.reel,
-        point,
-        class,
-        buffer,
-    )
-}
-
-// Writes the points of the run of a pair, the reel first, and says how many they are.
-// Refused if the chart cannot be asked at the point, if it has no run of the pair, or if the buffer is too short; then nothing is written.
-pub fn write_run<C: Class, K: Cost>(
-    chart: &Option<Chart>,
-    places: &[Pair<C, K>],
-    point: u16,
-    class: &C,
-    buffer: &mut [u16],
-) -> Result<usize, Refusal>
-    ensures answer { WritesRun C.Class chart.now places.now point class.now buffer.old buffer.new result }
-    ensures exact { LaysTruly C.Class K.Cost chart.now places.now point class.now buffer.new result }
-{
-    write_asked(chart, places, point, class, buffer)
+    // Writes the run of a pair among those that count, if the chart may be asked at the point.
+    fn write_asked(&self, point: u16, class: &C, buffer: &mut [u16]) -> Result<usize, Refusal>
+        ensures { WritesRun C.Class self.now.head self.now.places.now point class.now buffer.old buffer.new result }
+    {
+        let head = self.asked_at(point)?;
+        let links = Links {
+            pairs: &self.places[..usize::from(head.pairs)],
+            reel: head.reel,
+        };
+        links.write_in(point, class, buffer)
+    }
 }

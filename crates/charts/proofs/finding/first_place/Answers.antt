@@ -1,11 +1,11 @@
-use Rattle.std.proofs.Common.{sym, ◌∙◌, arith}
-use Rattle.charts.proofs.Searches.{passed_more}
+use Rattle.std.proofs.Common.{rules, tests}
+use Rattle.std.proofs.lemmas.Iterator.{YieldsList-from_slice}
+use Rattle.std.proofs.lemmas.Iterator.Search.{position_from_yields_List}
+use Rattle.charts.specs.Finding.{matches}
+use Rattle.charts.proofs.Searches.{finds_position}
 use Rattle.charts.proofs.finding.first_place.Goals as goal
 
-pub loop-place-preserved : goal.loop-place-preserved
-loop-place-preserved g c =
-    passed_more g.C.Class c.args.point c.args.class.now c.args.pairs.now c.loop-place.place c.index-pairs-place.result c.loop-place-test.true
-    c.index-pairs-place.is (sym c.is_pair.ensures ∙ c.if-is_pair.false) c.loop-place.invariant
-
 pub returns : goal.returns
-returns g c j x lt = c.loop-place.invariant j x (omega arith)
+returns g c =
+    finds_position g.C.Class c.args.point c.args.class.now c.args.pairs.now c.position.result
+    (position_from_yields_List (matches g.C.Class c.args.point c.args.class.now) _ _ _ c.position.ensures.ran (YieldsList-from_slice c.args.pairs.now cc) (λ x b q k. search (rules, tests)))

@@ -1,34 +1,22 @@
-use Rattle.std.proofs.Common.{take, sym, ◌∙◌, arith}
-use Rattle.std.proofs.lemmas.List.{length-take-le}
-use Rattle.charts.proofs.Gathering.{count_below, gathered_room, gathered_on, gathered_off, gathered_all}
+use Rattle.std.proofs.Common.{rules, tests, set, ap, ◌∙◌, arith}
+use Rattle.charts.specs.Listing.{is_at}
+use Rattle.charts.proofs.Gathering.{left_found, gathered_none, gathered_more, gathered_next, gathered_all}
 use Rattle.charts.proofs.listing.write_at.Goals as goal
-use Rattle.charts.proofs.listing.write_at.Goals.{then-is_at, else-is_at}
+use Rattle.charts.proofs.listing.write_at.Goals.{in-Some, in_default}
 
-pub put-requires : goal.put-requires
-put-requires g c =
-    omega (
-      arith,
-      c.loop-pair.auto.list,
-      gathered_room c.args.point c.args.pairs.now c.args.list.now c.loop-pair.pair-index c.loop-pair.count c.loop-pair.list c.pair-item.result
-          c.loop-pair-test.true c.pair-item.is c.requires c.loop-pair.invariant (sym c.is_at.ensures ∙ c.if-is_at.true),
-    )
+pub loop-item-init : goal.loop-item-init
+loop-item-init g c = gathered_none c.args.point c.args.pairs.now _ c.args.list.now c.iter-rest.ensures.rest
 
-pub overflow_add-count : goal.overflow_add-count
-overflow_add-count g c =
-    omega (arith, c.loop-pair.invariant.0, count_below c.args.point (take c.loop-pair.pair-index c.args.pairs.now), length-take-le c.loop-pair.pair-index c.args.pairs.now (omega arith))
-
-pub loop-pair-preserved : goal.loop-pair-preserved
-loop-pair-preserved g c =
-    elim c.if-is_at.branch [
-      | then-is_at w ↦
-          let it = gathered_on c.args.point c.args.pairs.now c.args.list.now c.loop-pair.pair-index c.loop-pair.count c.loop-pair.list c.pair-item.result
-          c.loop-pair-test.true c.pair-item.is c.requires c.loop-pair.invariant (sym c.is_at.ensures ∙ w.if-is_at.true) in
-          (cc it.0, cc it.1)
-      | else-is_at w ↦
-          let it = gathered_off c.args.point c.args.pairs.now c.args.list.now c.loop-pair.pair-index c.loop-pair.count c.loop-pair.list c.pair-item.result
-          c.loop-pair-test.true c.pair-item.is c.requires c.loop-pair.invariant (sym c.is_at.ensures ∙ w.if-is_at.false) in
-          (cc it.0, cc it.1)
+pub loop-item-preserved : goal.loop-item-preserved
+loop-item-preserved g c =
+    let found = left_found _ (is_at c.args.point) _ (λ x b q k. search (rules, tests)) c.loop-item.rest c.find.new.self c.find.result c.find.ensures.ran in
+    elim c.match-find.branch [
+      | in-Some w ↦
+          gathered_more c.args.point c.args.pairs.now c.loop-item.item-index _ _ c.loop-item.list c.find.result c.loop-item.invariant (omega arith) (omega arith) found w.in-Some.pair c.match-find.list
+          w.in-Some.is (w.list-is ∙ ap (set c.loop-item.list c.loop-item.item-index) w.price_of.ensures)
+      | in_default w ↦
+          absurd (gathered_next c.args.point c.args.pairs.now c.loop-item.item-index _ _ c.loop-item.list c.find.result c.loop-item.invariant (omega arith) (omega arith) found w.in_default.is)
     ]
 
 pub returns : goal.returns
-returns g c = gathered_all c.args.point c.args.pairs.now c.args.list.now c.loop-pair.pair-index c.loop-pair.count c.loop-pair.list c.loop-pair-test.false c.loop-pair.invariant
+returns g c = gathered_all c.args.point c.args.pairs.now c.loop-item.item-index _ c.loop-item.list c.loop-item.invariant (omega arith) (omega arith)

@@ -1,6 +1,7 @@
+use Rattle.std.specs.Slice.Iter.{iter_rest}
 use Rattle.charts.proofs.Gathering.{Gathered}
 use Rattle.charts.proofs.listing.write_at.Given as goal
 
--- what is at the point among the places so far stands in the first places of the list, and the others are as they were
-abbrev pub invariant-loop-pair : goal.invariant-loop-pair
-invariant-loop-pair g l = Gathered l.point l.pairs l.initial.list l.pair-index l.count l.list
+-- so many places hold what is at the point, and what is still to come is among the pairs that are left
+abbrev pub invariant-loop-item : goal.invariant-loop-item
+invariant-loop-item g l = Gathered l.point l.pairs l.item-index (iter_rest l.rest) l.list
