@@ -7,8 +7,8 @@
 --     kept_by r, head_of m q r  how many places a chart keeps, and its head: none where it is refused
 --     VacantPlace b c x        x is a vacant place: point 0, the unit, zero, no link
 --     VacantRecord c w         w is a vacant queue place: zero and zero, slot 0
-use Rattle.std.specs.Prelude.{◌≡◌, ℕ, ◌<◌, ◌≤◌, ◌⊎◌, Some, None, Ok, Err, Option, Result, option_map, ok_or}
-use Rattle.std.specs.Result.{result_ok, result_unwrap_or}
+use Rattle.std.specs.Prelude.{◌≡◌, ℕ, ◌<◌, ◌≤◌, ◌⊎◌, Some, None, Ok, Err, Option, Result, ok_or}
+use Rattle.std.specs.Result.{result_unwrap_or}
 use Rattle.kinds.specs.declared.refusal.Refusal.{Refusal}
 use Rattle.kinds.specs.declared.refusal.Refusal.TheVariants.{NoSuchPoint, CableTooLong, ReachTooLarge}
 use Rattle.kinds.specs.Maps.{Site}

@@ -14,6 +14,7 @@ pub struct Open<K> {
 }
 
 // The lower bound goes first, and the lower cost of two with one bound.
+// Written by hand and not derived: a cost has no `Ord`, only the `compare` of its kind.
 impl<K: Cost> Ranked for Open<K> {
     ghost order = { by_bound K.Cost.costs };
 
