@@ -1,5 +1,5 @@
 // The place of a pair among the places of a chart.
-ghost use Rattle.std.specs.Prelude.{◌≡◌};
+ghost use Rattle.std.specs.Prelude.{◌≡◌, position};
 ghost use Rattle.charts.specs.Finding.{matches, Finds};
 
 use crate::chart::Pair;
@@ -7,8 +7,16 @@ use kinds::class::Class;
 use kinds::cost::Cost;
 
 // The first place with the pair of the point and the class.
+#[tactic(auto, using(crate::proofs::Searches::finds_position))]
 pub fn first_place<C: Class, K: Cost>(pairs: &[Pair<C, K>], point: u16, class: &C) -> Option<usize>
     ensures { Finds C.Class pairs.now point class.now result }
+{
+    place_of(pairs, point, class)
+}
+
+// The same, said as `position` says it.
+fn place_of<C: Class, K: Cost>(pairs: &[Pair<C, K>], point: u16, class: &C) -> Option<usize>
+    ensures { result ≡ position (matches C.Class point class.now) pairs.now }
 {
     pairs.iter().position(|pair| is_pair(pair, point, class))
 }

@@ -1,7 +1,5 @@
 // The list at a point: the classes in which a cable can lie there, each with its cost, cheapest first.
 ghost use Rattle.std.specs.Prelude.{◌≡◌, length, filter};
-ghost use Rattle.std.specs.List.Sorted.{IsPermutation};
-ghost use Rattle.tables.specs.Queues.{Ascending};
 ghost use Rattle.charts.specs.Ranks.{by_cost};
 ghost use Rattle.charts.specs.Listed.{ListsTruly};
 ghost use Rattle.charts.specs.Listing.{is_at, priced, priced_at, ListsIn, ListsAt};
@@ -15,6 +13,7 @@ use tables::order::Ranked;
 use tables::queue::sort;
 
 // The cheaper comes first, and of equal costs the class that is first in the order of classes.
+// Written by hand and not derived: costs and classes have no `Ord`, and equal classes may be unequal values.
 impl<C: Class, K: Cost> Ranked for Priced<C, K> {
     ghost order = { by_cost C.Class K.Cost };
 
@@ -40,14 +39,6 @@ fn price_of<C: Class, K: Cost>(pair: &Pair<C, K>) -> Priced<C, K>
         class: pair.class,
         cost: pair.cost,
     }
-}
-
-// Puts a list in order.
-fn put_in_order<C: Class, K: Cost>(items: &mut [Priced<C, K>])
-    ensures items { IsPermutation items.old items.new }
-    ensures ascends { Ascending (by_cost C.Class K.Cost) items.new }
-{
-    sort(items);
 }
 
 // How many pairs are at the point.
@@ -84,7 +75,7 @@ fn list_in<C: Class, K: Cost>(
     }
     let listed = &mut list[..count];
     write_at(pairs, point, listed);
-    put_in_order(listed);
+    sort(listed);
     Ok(count)
 }
 
