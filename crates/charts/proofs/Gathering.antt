@@ -1,11 +1,11 @@
 -- The pairs at a point, gathered into a list.
-use Rattle.std.proofs.Common.{◌≡◌, ℕ, ◌+◌, ◌<◌, ◌≤◌, Bool, true, false, cond, List, [], ◌∷◌, ◌++◌, map, length, get_or, take, drop, set, filter, Some, None, Option, Bor, Iter, MatchOption, IfSome, sym, refl, ap, ◌∙◌, subst, arith}
+use Rattle.std.proofs.Common.{◌≡◌, ℕ, ◌+◌, ◌<◌, Bool, true, false, cond, List, [], ◌∷◌, ◌++◌, map, length, get_or, take, drop, set, filter, Some, None, Option, Bor, Iter, MatchOption, IfSome, sym, ap, ◌∙◌, subst, arith}
 use Rattle.std.specs.Fn.{CalledAt}
 use Rattle.std.specs.Iterator.{Yields, FindsItem}
 use Rattle.std.specs.List.{FoldsTo}
 use Rattle.std.specs.Slice.Iter.{iter_rest}
 use Rattle.std.proofs.iter.Yields.{fronts}
-use Rattle.std.proofs.lemmas.List.{nil_from_length, drop_more, length-drop, take_all, take_more, take_more_set}
+use Rattle.std.proofs.lemmas.List.{nil_from_length, drop_more, length-drop, take_more, take_more_set}
 use denote.Param.Members.{Mut}
 use Rattle.charts.specs.declared.chart.Pair.{Pair}
 use Rattle.charts.specs.declared.chart.Priced.{Priced}
@@ -38,10 +38,6 @@ module _ {C K : Type 0} (p : ℕ) (xs : List (Pair C K)) where
     pub done : take n to ≡ take n (priced_at p xs)
     pub left : priced_at p rest ≡ drop n (priced_at p xs)
 
-  -- none stands there yet
-  pub gathered_none : (rest : List (Pair C K)) (to : List (Priced C K)) → rest ≡ xs → Gathered 0 rest to
-  gathered_none rest to e = record { done = refl; left = ap (priced_at p) e }
-
   module _ (n : ℕ) (rest rest' : List (Pair C K)) (to : List (Priced C K)) (r : Option (Bor (Pair C K))) (so : Gathered n rest to) (long : length to ≡ length (priced_at p xs)) (l : n < length to)
       (found : Left (is_at p) rest r rest') where
     -- the next is written
@@ -67,7 +63,3 @@ module _ {C K : Type 0} (p : ℕ) (xs : List (Pair C K)) where
     gathered_next none =
         let no : filter (is_at p) rest ≡ [] = subst (λ (o : Option (Bor (Pair C K))). Left (is_at p) rest o rest') none found in
         omega (arith, long, length-drop n (priced_at p xs), ap length (sym so.left ∙ ap (map priced) no))
-
-  -- all stand there
-  pub gathered_all : (n : ℕ) (rest : List (Pair C K)) (to : List (Priced C K)) → Gathered n rest to → length to ≡ length (priced_at p xs) → length to ≤ n → to ≡ priced_at p xs
-  gathered_all n rest to so long l = sym (take_all n to l) ∙ so.done ∙ take_all n (priced_at p xs) (omega (arith, long))

@@ -2,7 +2,7 @@
 use Rattle.std.proofs.Common.{◌≡◌, ℕ, zero, suc, ◌+◌, ◌<◌, ◌≤◌, false, ltb, List, [], ◌∷◌, ◌++◌, length, get_or, take, drop, set, Some, None, Ok, Err, Option, Result, MatchOption, sym, refl, ap, ◌∙◌, subst, inl, inr, arith}
 use Rattle.std.specs.Option.{ok_or}
 use Rattle.std.proofs.lemmas.Option.{MatchOption-at_some}
-use Rattle.std.proofs.lemmas.List.{length-drop, length-set, get_or_default, drop_more, take_all, take_more, take_more_set}
+use Rattle.std.proofs.lemmas.List.{length-drop, length-set, get_or_default, drop_more, take_more, take_more_set}
 use Rattle.std.proofs.lemmas.Bool.{cases_Bool, cond-true, cond-false, ltb-true, lt-ltb, false≢true}
 use Rattle.kinds.specs.declared.refusal.Refusal.{Refusal}
 use Rattle.kinds.specs.declared.refusal.Refusal.TheVariants.{NoRun}
@@ -123,10 +123,6 @@ module _ {C K : Type 0} (b : Classes C) (reel : ℕ) (xs : List (Pair C K)) wher
     pub on : (ps : List ℕ) → Leads b reel xs j ps → (qs : List ℕ) × Leads b reel xs i qs × (length qs ≡ n + length ps)
     pub back : (qs : List ℕ) → Leads b reel xs i qs → (ps : List ℕ) × Leads b reel xs j ps × (length qs ≡ n + length ps)
 
-  -- no link is followed yet
-  pub comes_none : (i : ℕ) → Comes i 0 i
-  comes_none i = record { on = λ ps h. (ps, h, omega arith); back = λ qs h. (qs, h, omega arith) }
-
   module _ (i n j : ℕ) (d : Pair C K) (so : Comes i n j) (here : j < length xs) where
     abbrev at_place : Pair C K
     at_place = get_or xs j d
@@ -211,11 +207,6 @@ module _ {C K : Type 0} (b : Classes C) (reel : ℕ) (xs : List (Pair C K)) wher
         onward [] m h = absurd (none_below 0 m)
         onward (q ∷ ps) m (y, lt, a, e, off, (f, link, h)) =
             subst (λ (z : ℕ). Leads b reel xs z (q ∷ ps)) (sym (MatchOption-at_some (k ≡ j) (λ m. k ≡ m) f (ap (λ (z : Pair C K). z.link) (a d) ∙ link) next)) h
-
-  -- all points are written
-  pub written_all : (i n j : ℕ) (buffer : List ℕ) → Written i n j buffer → length buffer ≤ n → Leads b reel xs i buffer
-  written_all i n j buffer so l =
-      subst (Leads b reel xs i) (sym (take_all n so.points (omega (arith, so.long))) ∙ sym so.done ∙ take_all n buffer l) so.leads
 
 -- the run of a pair
 module _ {C K : Type 0} (b : Classes C) (reel : ℕ) (xs : List (Pair C K)) (p : ℕ) (c : C) (from : List ℕ) where

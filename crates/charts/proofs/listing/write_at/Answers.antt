@@ -1,11 +1,8 @@
 use Rattle.std.proofs.Common.{rules, tests, set, ap, ◌∙◌, arith}
 use Rattle.charts.specs.Listing.{is_at}
-use Rattle.charts.proofs.Gathering.{left_found, gathered_none, gathered_more, gathered_next, gathered_all}
+use Rattle.charts.proofs.Gathering.{left_found, gathered_more, gathered_next}
 use Rattle.charts.proofs.listing.write_at.Goals as goal
 use Rattle.charts.proofs.listing.write_at.Goals.{in-Some, in_default}
-
-pub loop-item-init : goal.loop-item-init
-loop-item-init g c = gathered_none c.args.point c.args.pairs.now _ c.args.list.now c.iter-rest.ensures.rest
 
 pub loop-item-preserved : goal.loop-item-preserved
 loop-item-preserved g c =
@@ -17,6 +14,3 @@ loop-item-preserved g c =
       | in_default w ↦
           absurd (gathered_next c.args.point c.args.pairs.now c.loop-item.item-index _ _ c.loop-item.list c.find.result c.loop-item.invariant (omega arith) (omega arith) found w.in_default.is)
     ]
-
-pub returns : goal.returns
-returns g c = gathered_all c.args.point c.args.pairs.now c.loop-item.item-index _ c.loop-item.list c.loop-item.invariant (omega arith) (omega arith)

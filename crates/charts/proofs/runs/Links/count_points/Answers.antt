@@ -1,10 +1,7 @@
 use Rattle.std.proofs.Common.{ℕ, ◌+◌, ◌<◌, Ok, length, sym, ap, ◌∙◌, subst}
 use Rattle.std.proofs.lemmas.Result.{err_from_is_err_and}
-use Rattle.charts.proofs.Trails.{Comes, comes_none, comes_more, comes_home, comes_nowhere, comes_round}
+use Rattle.charts.proofs.Trails.{Comes, comes_more, comes_home, comes_nowhere, comes_round}
 use Rattle.charts.proofs.runs.Links.count_points.Goals as goal
-
-pub loop-count-init : goal.loop-count-init
-loop-count-init g c = (c.requires, comes_none g.C.Class c.args.self.now.reel c.args.self.now.pairs.now c.args.first)
 
 pub returns-in_err-before : goal.returns-in_err-before
 returns-in_err-before g c =

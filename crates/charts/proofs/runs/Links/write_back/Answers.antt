@@ -1,5 +1,5 @@
 use Rattle.std.proofs.Common.{rules, arith}
-use Rattle.charts.proofs.Trails.{written_none, written_more, written_all}
+use Rattle.charts.proofs.Trails.{written_none, written_more}
 use Rattle.charts.proofs.runs.Links.write_back.Goals as goal
 
 pub loop-slot-init : goal.loop-slot-init
@@ -9,6 +9,3 @@ pub loop-slot-preserved : goal.loop-slot-preserved
 loop-slot-preserved g c =
     written_more g.C.Class c.args.self.now.reel c.args.self.now.pairs.now c.args.first c.loop-slot.slot-index c.loop-slot.place c.loop-slot.buffer c.index-self-place.result c.loop-slot.invariant
     (omega arith) c.map_or-place.result (search rules)
-
-pub returns : goal.returns
-returns g c = written_all g.C.Class c.args.self.now.reel c.args.self.now.pairs.now c.args.first c.loop-slot.slot-index c.loop-slot.place c.loop-slot.buffer c.loop-slot.invariant (omega arith)
