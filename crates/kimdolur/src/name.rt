@@ -1,25 +1,18 @@
 // `kimdolur name`: the class that a list of crossings names.
-use anyhow::anyhow;
 use classes::letters::Letter;
 use classes::sides::Sides;
-use classes::symbols::{Spelled, Unread};
+use classes::symbols::Spelled;
 use classes::words::LONGEST;
 use classes::{naming, spelling, symbols};
 use kinds::crossing::Crossing;
-use std::alloc::{AllocError, Global};
+use std::alloc::Global;
 
 // The crossings that a text stands for, or what is wrong with it.
 fn read(heap: Global, text: &str) -> anyhow::Result<Vec<Crossing>> {
     let symbols = text.chars().collect::<Vec<char>>(heap)?;
     let mut crossings = Vec::new(heap);
-    match symbols::read(&symbols, &mut crossings) {
-        Ok(()) => Ok(crossings),
-        Err(Unread::Memory) => Err(AllocError.into()),
-        Err(Unread::Symbol { place, symbol }) => {
-            let number = place.saturating_add(1);
-            Err(anyhow!("'{symbol}' at place {number} is no crossing: use a to g, A to G or -"))
-        }
-    }
+    symbols::read(&symbols, &mut crossings)?;
+    Ok(crossings)
 }
 
 // Prints the word of the crossings, whether it is held, and their sides.

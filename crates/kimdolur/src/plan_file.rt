@@ -14,10 +14,7 @@ pub(crate) struct Held {
 
 // Reads the bytes of a file, or says that they cannot be read.
 fn bytes_of(rt: &HostRuntime, path: &str) -> anyhow::Result<Vec<u8>> {
-    match fs::read(rt, path) {
-        Ok(bytes) => Ok(bytes),
-        Err(error) => Err(anyhow!("the plan cannot be read: {error}: {path}")),
-    }
+    fs::read(rt, path).map_err(|error| anyhow!("the plan cannot be read: {error}: {path}"))
 }
 
 // Reads the plan in a file.
@@ -26,8 +23,6 @@ pub(crate) fn read(rt: &HostRuntime, path: &str) -> anyhow::Result<Held> {
     let bytes = bytes_of(rt, path)?;
     let mut memory = vec![in heap; 0u8; PLAN_MEMORY]?;
     let mut slots = vec![in heap; 0u16; PLAN_SLOTS]?;
-    match reading::read(&bytes, &mut memory, &mut slots) {
-        Ok(plan) => Ok(Held { plan, memory }),
-        Err(refusal) => Err(anyhow!("{refusal}")),
-    }
+    let plan = reading::read(&bytes, &mut memory, &mut slots)?;
+    Ok(Held { plan, memory })
 }

@@ -1,7 +1,7 @@
 // `kimdolur price`: the end, class and cost of a run, lane by lane.
 use crate::plan_file;
 use crate::plan_file::Held;
-use anyhow::anyhow;
+use anyhow::{Context, anyhow};
 use classes::sides::Sides;
 use classes::symbols;
 use classes::words::Word;
@@ -12,12 +12,13 @@ use kinds::cost::Cost;
 use kinds::lane::Lane;
 use kinds::map::Map;
 use kinds::pricing;
-use kinds::pricing::{Along, Pricing, Step};
+use kinds::pricing::{Along, Unpriced};
 use plans::grid::GridMap;
 use plans::plan::Plan;
 use plans::road::RoadMap;
 use std::alloc::Global;
 use std::fmt::Display;
+use std::str::FromStr;
 
 // The kind of classes that a run is priced in.
 #[derive(Clone, Copy)]
@@ -42,53 +43,34 @@ struct Request {
     costs: Costs,
 }
 
-// What the next word of the command says.
-#[derive(Clone, Copy)]
-enum Expected {
-    LaneOrOption,
-    Classes,
-    Costs,
+impl FromStr for Classes {
+    type Err = anyhow::Error;
+
+    fn from_str(word: &str) -> anyhow::Result<Classes> {
+        match word {
+            "words" => Ok(Classes::Words),
+            "sides" => Ok(Classes::Sides),
+            _ => Err(anyhow!("'{word}' is no kind of classes: use words or sides")),
+        }
+    }
+}
+
+impl FromStr for Costs {
+    type Err = anyhow::Error;
+
+    fn from_str(word: &str) -> anyhow::Result<Costs> {
+        match word {
+            "length" => Ok(Costs::Length),
+            "slope" => Ok(Costs::Slope),
+            _ => Err(anyhow!("'{word}' is no kind of costs: use length or slope")),
+        }
+    }
 }
 
 // The number that a word spells.
 fn number(word: &str) -> anyhow::Result<u16> {
-    match word.parse::<u16>() {
-        Ok(number) => Ok(number),
-        Err(_) => { Err(anyhow!("'{word}' is no number from 0 to 65535")) }
-    }
-}
-
-// The kind of classes with this name.
-fn classes_of(word: &str) -> anyhow::Result<Classes> {
-    match word {
-        "words" => Ok(Classes::Words),
-        "sides" => Ok(Classes::Sides),
-        _ => { Err(anyhow!("'{word}' is no kind of classes: use words or sides")) }
-    }
-}
-
-// The kind of costs with this name.
-fn costs_of(word: &str) -> anyhow::Result<Costs> {
-    match word {
-        "length" => Ok(Costs::Length),
-        "slope" => Ok(Costs::Slope),
-        _ => { Err(anyhow!("'{word}' is no kind of costs: use length or slope")) }
-    }
-}
-
-// Takes up a lane number, or begins an option: what the word after it says.
-fn lane_or_option(word: &str, request: &mut Request) -> anyhow::Result<Expected> {
-    match word {
-        "--class" => Ok(Expected::Classes),
-        "--cost" => Ok(Expected::Costs),
-        _ if word.starts_with("-") => {
-            Err(anyhow!("no option '{word}'; kimdolur --help lists them"))
-        }
-        _ => {
-            request.lanes.push(number(word)?)?;
-            Ok(Expected::LaneOrOption)
-        }
-    }
+    word.parse::<u16>()
+        .map_err(|_| anyhow!("'{word}' is no number from 0 to 65535"))
 }
 
 // The request that the words after the plan's name make.
@@ -99,26 +81,24 @@ fn read_request(heap: Global, from: &str, words: &[String]) -> anyhow::Result<Re
         classes: Classes::Words,
         costs: Costs::Length,
     };
-    let mut expected = Expected::LaneOrOption;
-    for word in words {
-        let word = word.as_str();
-        match expected {
-            Expected::LaneOrOption => expected = lane_or_option(word, &mut request)?,
-            Expected::Classes => {
-                request.classes = classes_of(word)?;
-                expected = Expected::LaneOrOption;
+    let mut words = words.iter();
+    while let Some(word) = words.next() {
+        match word.as_str() {
+            "--class" => {
+                let name = words.next().context("--class wants words or sides after it")?;
+                request.classes = name.parse::<Classes>()?;
             }
-            Expected::Costs => {
-                request.costs = costs_of(word)?;
-                expected = Expected::LaneOrOption;
+            "--cost" => {
+                let name = words.next().context("--cost wants length or slope after it")?;
+                request.costs = name.parse::<Costs>()?;
             }
+            option if option.starts_with("-") => {
+                return Err(anyhow!("no option '{option}'; kimdolur --help lists them"));
+            }
+            lane => request.lanes.push(number(lane)?)?,
         }
     }
-    match expected {
-        Expected::LaneOrOption => Ok(request),
-        Expected::Classes => Err(anyhow!("--class wants words or sides after it")),
-        Expected::Costs => Err(anyhow!("--cost wants length or slope after it")),
-    }
+    Ok(request)
 }
 
 // Adds the line of a lane that was gone.
@@ -160,7 +140,7 @@ fn add_lanes<M: Map, C: Class + Display, K: Cost + Display>(
         let Some(lane) = map.lane(along.end, *number) else {
             return Ok(along.end);
         };
-        let Step::On(next) = pricing::go_on(map, along, *number) else {
+        let Ok(next) = pricing::go_on(map, along, *number) else {
             return Ok(along.end);
         };
         add_lane(out, *number, lane, &next)?;
@@ -172,23 +152,23 @@ fn add_lanes<M: Map, C: Class + Display, K: Cost + Display>(
 // Adds the last line: what the run comes to.
 fn add_sum<C: Display, K: Display>(
     out: &mut String,
-    pricing: &Pricing<C, K>,
+    pricing: &Result<Along<C, K>, Unpriced>,
     reached: u16,
     numbers: &[u16],
 ) -> anyhow::Result<()> {
     match pricing {
-        Pricing::Whole(along) => {
+        Ok(along) => {
             let end = along.end;
             let class = &along.class;
             let cost = &along.cost;
             writeln!(out, "end {end} class {class} cost {cost}")?;
         }
-        Pricing::NoPoint => writeln!(out, "{reached} is no point of the map")?,
-        Pricing::LaneMissing(place) => {
+        Err(Unpriced::NoPoint) => writeln!(out, "{reached} is no point of the map")?,
+        Err(Unpriced::LaneMissing(place)) => {
             let number = numbers.get(*place).copied().unwrap_or(0);
             writeln!(out, "lane {number} is missing at point {reached}")?;
         }
-        Pricing::ClassNotHeld(count) => {
+        Err(Unpriced::ClassNotHeld(count)) => {
             writeln!(out, "the class after {count} lanes is not held")?;
         }
     }
@@ -203,7 +183,7 @@ fn lines<M: Map, C: Class + Display, K: Cost + Display>(
     numbers: &[u16],
 ) -> anyhow::Result<String> {
     let mut out = String::new(heap);
-    let whole: Pricing<C, K> = pricing::price(map, from, numbers);
+    let whole: Result<Along<C, K>, Unpriced> = pricing::price(map, from, numbers);
     let reached = add_lanes::<M, C, K>(&mut out, map, from, numbers)?;
     add_sum(&mut out, &whole, reached, numbers)?;
     Ok(out)

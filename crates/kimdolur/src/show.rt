@@ -30,12 +30,10 @@ fn mark(grid: &Grid, memory: &[u8], column: u8, row: u8) -> char {
 
 // Whether a post stands in the square with this south-west corner.
 fn has_post(grid: &Grid, column: u8, row: u8) -> bool {
-    for post in grid.posts.iter().take(usize::from(grid.count)) {
-        if post.column == column && post.row == row {
-            return true;
-        }
-    }
-    false
+    grid.posts
+        .iter()
+        .take(usize::from(grid.count))
+        .any(|post| post.column == column && post.row == row)
 }
 
 // Adds the drawing of one row of points.
@@ -106,12 +104,7 @@ fn show_grid(heap: Global, grid: &Grid, memory: &[u8]) -> anyhow::Result<String>
 
 // The lane with this number, and the point that it begins at.
 fn find_lane<M: Map>(map: &M, number: u16) -> Option<(u16, Lane)> {
-    for point in 0..map.points() {
-        if let Some(lane) = map.lane(point, number) {
-            return Some((point, lane));
-        }
-    }
-    None
+    (0..map.points()).find_map(|point| map.lane(point, number).map(|lane| (point, lane)))
 }
 
 // Adds the line of a lane, if there is one with the number.

@@ -15,10 +15,9 @@ const EAST: &[u8] = b"G\x03\x03\x00\x64R\x01\x01B\x01\x01E";
 fn refused(bytes: &[u8]) -> Option<(u8, Option<u16>)> {
     let mut memory = [7u8; 10240];
     let mut slots = [7u16; 1024];
-    match read(bytes, &mut memory, &mut slots) {
-        Ok(_) => None,
-        Err(refusal) => Some((refusal.number(), refusal.offset())),
-    }
+    read(bytes, &mut memory, &mut slots)
+        .err()
+        .map(|refusal| (refusal.number(), refusal.offset()))
 }
 
 // Checks that bytes are refused with this number at this offset.
@@ -103,8 +102,8 @@ fn refuses_roads(rt: HostRuntime) {
 fn points(heap: Global, count: u16) -> Result<Vec<u8>, Fail> {
     let mut bytes = Vec::new(heap);
     bytes.push(b'M')?;
-    for i in 0..count {
-        let [high, low] = i.to_be_bytes();
+    for number in 0..count {
+        let [high, low] = number.to_be_bytes();
         bytes.extend_from_slice(&[b'P', 0, 0, high, low])?;
     }
     Ok(bytes)
@@ -182,9 +181,7 @@ fn reads_a_road(rt: HostRuntime) -> Result<(), Fail> {
         memory: &memory[..],
     };
     assert!(rt; map.points() == 2);
-    let Some(lane) = map.lane(1, 0) else {
-        return Err(Fail::new("a lane"));
-    };
+    let lane = map.lane(1, 0).ok_or_else(|| Fail::new("a lane"))?;
     assert!(rt; lane.to == 0 && lane.length == 65535 && lane.risk == 9);
     assert!(rt; map.lane(0, 1).is_some() && map.lane(0, 0).is_none());
     Ok(())

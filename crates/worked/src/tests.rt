@@ -21,11 +21,11 @@ use std::test::Fail;
 fn crossings(heap: Global, text: &str) -> Result<Vec<Crossing>, Fail> {
     let characters = text.chars().collect::<Vec<char>>(heap)?;
     let mut all = Vec::new(heap);
-    match symbols::read(&characters, &mut all) {
-        Ok(()) => Ok(all),
-        Err(Unread::Symbol { .. }) => Err(Fail::new("no crossing")),
-        Err(Unread::Memory) => Err(Fail::new("no memory")),
-    }
+    symbols::read(&characters, &mut all).map_err(|unread| match unread {
+        Unread::Symbol { .. } => Fail::new("no crossing"),
+        Unread::Memory => Fail::new("no memory"),
+    })?;
+    Ok(all)
 }
 
 // The word that a text names, as it is written.
@@ -38,14 +38,10 @@ fn named(heap: Global, text: &str) -> Result<String, Fail> {
 
 // The class of a text's crossings, or none where a word on the way is not held.
 fn class<C: Class>(heap: Global, text: &str) -> Result<Option<C>, Fail> {
-    let mut class = C::unit();
-    for crossing in crossings(heap, text)?.iter() {
-        match class.after(*crossing) {
-            Some(next) => class = next,
-            None => return Ok(None),
-        }
-    }
-    Ok(Some(class))
+    let all = crossings(heap, text)?;
+    Ok(all
+        .iter()
+        .try_fold(C::unit(), |class, crossing| class.after(*crossing)))
 }
 
 #[test]
@@ -66,21 +62,17 @@ fn holds_words_of_32_letters(rt: HostRuntime) -> Result<(), Fail> {
     let heap = rt.alloc();
     let text = "aaaaaaaaaaaaaaaaaaaaaaaaaaaaaaaa";
     let longer = "aaaaaaaaaaaaaaaaaaaaaaaaaaaaaaaaa";
-    let Some(word) = class::<Word>(heap, text)? else {
-        return Err(Fail::new("32 letters are held"));
-    };
+    let word = class::<Word>(heap, text)?.ok_or_else(|| Fail::new("32 letters are held"))?;
     assert!(rt; word.as_slice().len() == 32);
     assert!(rt; size_of::<Word>() == 33);
     assert!(rt; class::<Word>(heap, longer)?.is_none());
     assert!(rt; named(heap, longer)?.as_str() == longer);
     assert!(rt; !is_held(&[Letter::LowerA; 33]));
-    match word.after(Crossing::Backwards(Ray::One)) {
-        Some(back) => {
-            assert!(rt; back.as_slice().len() == 31);
-            Ok(())
-        },
-        None => Err(Fail::new("A after 32 gives 31")),
-    }
+    let back = word
+        .after(Crossing::Backwards(Ray::One))
+        .ok_or_else(|| Fail::new("A after 32 gives 31"))?;
+    assert!(rt; back.as_slice().len() == 31);
+    Ok(())
 }
 
 // How the classes of two texts compare.
@@ -107,9 +99,7 @@ fn orders_classes(rt: HostRuntime) -> Result<(), Fail> {
 #[test]
 fn inverts_and_shows(rt: HostRuntime) -> Result<(), Fail> {
     let heap = rt.alloc();
-    let Some(word) = class::<Word>(heap, "abAc")? else {
-        return Err(Fail::new("four letters are held"));
-    };
+    let word = class::<Word>(heap, "abAc")?.ok_or_else(|| Fail::new("four letters are held"))?;
     assert!(rt; word.to_string(heap)?.as_str() == "abAc");
     assert!(rt; word.inverse().to_string(heap)?.as_str() == "CaBA");
     assert!(rt; Word::unit().to_string(heap)?.as_str() == "unit");
