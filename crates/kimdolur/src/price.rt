@@ -3,7 +3,6 @@ use crate::plan_file;
 use crate::plan_file::Held;
 use anyhow::{Context, anyhow};
 use classes::sides::Sides;
-use classes::symbols;
 use classes::words::Word;
 use costs::length::Length;
 use costs::slope::Slope;
@@ -114,12 +113,11 @@ fn add_lane<C: Display, K: Display>(
         risk,
         crossing,
     } = lane;
-    let symbol = symbols::symbol(crossing);
     let cost = &along.cost;
     let class = &along.class;
     writeln!(
         out,
-        "lane {number} to {to} crossing {symbol} length {length} risk {risk} cost {cost} class {class}"
+        "lane {number} to {to} crossing {crossing} length {length} risk {risk} cost {cost} class {class}"
     )?;
     Ok(())
 }

@@ -1,15 +1,12 @@
 // `kimdolur show`: what a plan holds.
 use crate::plan_file;
 use crate::plan_file::Held;
-use classes::symbols;
 use kinds::lane::Lane;
 use kinds::map::Map;
+use plans::grid::BLOCKED;
 use plans::plan::{Grid, Plan, Road};
 use plans::road::RoadMap;
 use std::alloc::Global;
-
-// Where the bytes that say whether a point is blocked begin.
-const BLOCKED: usize = 4096;
 
 // Whether a byte of the memory is other than 0.
 fn is_set(memory: &[u8], at: usize) -> bool {
@@ -118,10 +115,9 @@ fn add_lane<M: Map>(out: &mut String, map: &M, number: u16) -> anyhow::Result<()
         risk,
         crossing,
     } = lane;
-    let symbol = symbols::symbol(crossing);
     writeln!(
         out,
-        "lane {number}: {from} to {to} length {length} risk {risk} crossing {symbol}"
+        "lane {number}: {from} to {to} length {length} risk {risk} crossing {crossing}"
     )?;
     Ok(())
 }
