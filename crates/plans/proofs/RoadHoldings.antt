@@ -1,9 +1,9 @@
 -- The record, the memory and the index together: at the start, a number looked up, and one command more.
-use Rattle.std.proofs.Common.{◌≡◌, ℕ, ◌+◌, ◌*◌, ◌<◌, ◌≤◌, true, false, List, [], ◌∷◌, ◌++◌, length, replicate, is_some, Some, None, Option, sym, refl, ap, ◌∙◌, subst, inl, inr, arith, length-set}
+use Rattle.std.proofs.Common.{◌≡◌, ℕ, ◌+◌, ◌*◌, ◌<◌, ◌≤◌, true, false, List, [], ◌∷◌, ◌++◌, length, replicate, is_some, Some, None, Ok, Err, Option, Result, sym, refl, ap, ◌∙◌, subst, inl, inr, arith, length-set}
 use Rattle.std.proofs.lemmas.List.{append-nil, length-replicate, length_push}
 use Rattle.std.proofs.lemmas.Bool.{true≢false, false≢true}
-use Rattle.tables.specs.declared.index.Inserted.{Inserted}
-use Rattle.tables.specs.declared.index.Inserted.TheVariants.{At, Full, NoEntry}
+use Rattle.tables.specs.declared.index.NotEntered.{NotEntered}
+use Rattle.tables.specs.declared.index.NotEntered.TheVariants.{Full, NoEntry}
 use Rattle.tables.specs.Indexes.{Indexed, Covers, Inserts, Keeps}
 use Rattle.tables.proofs.Clearing.{indexed_vacant}
 use Rattle.tables.proofs.Covering.{covers_none}
@@ -32,10 +32,10 @@ holds_none m slots e f = record {
   covers = covers_none slots;
 }
 
-length_inserts : (n k : ℕ) (from to : List ℕ) (r : Inserted) → Inserts n k from to r → length to ≡ length from
-length_inserts n k from to (At i) (_, _, e) = ap length e ∙ length-set from i (k + 1)
-length_inserts n k from to Full (_, _, e) = ap length e
-length_inserts n k from to NoEntry (_, e) = ap length e
+length_inserts : (n k : ℕ) (from to : List ℕ) (r : Result ℕ NotEntered) → Inserts n k from to r → length to ≡ length from
+length_inserts n k from to (Ok i) (_, _, e) = ap length e ∙ length-set from i (k + 1)
+length_inserts n k from to (Err Full) (_, _, e) = ap length e
+length_inserts n k from to (Err NoEntry) (_, e) = ap length e
 
 -- what a look-up answered, by the test on it
 pub some_found : (at : ℕ → Option ℕ) (slots : List ℕ) (n : ℕ) (r : Option ℕ) → Finds at slots n r → is_some r ≡ true → (k : ℕ) × (at k ≡ Some n)

@@ -1,8 +1,8 @@
 -- A well-kept index of survey numbers: where a number is found, that it is not there, and one number more.
-use Rattle.std.proofs.Common.{◌≡◌, ℕ, ◌+◌, ◌<◌, List, [], ◌∷◌, ◌++◌, length, get_or, Some, Option, sym, refl, ap, ◌∙◌, arith}
+use Rattle.std.proofs.Common.{◌≡◌, ℕ, ◌+◌, ◌<◌, List, [], ◌∷◌, ◌++◌, length, get_or, Some, Ok, Err, Option, Result, sym, refl, ap, ◌∙◌, arith}
 use Rattle.std.proofs.lemmas.List.{length_push, get_or_push}
-use Rattle.tables.specs.declared.index.Inserted.{Inserted}
-use Rattle.tables.specs.declared.index.Inserted.TheVariants.{At, Full, NoEntry}
+use Rattle.tables.specs.declared.index.NotEntered.{NotEntered}
+use Rattle.tables.specs.declared.index.NotEntered.TheVariants.{Full, NoEntry}
 use Rattle.tables.specs.Indexes.{Names, Absent, Indexed, Covers, Inserts, Keeps}
 use Rattle.tables.proofs.Renaming.{indexed_elsewhere}
 use Rattle.tables.proofs.Covering.{covers_inserts, absent_covered}
@@ -65,8 +65,8 @@ module _ (ns slots : List ℕ) (ix : Indexed numbers (listed ns) slots) where
           (λ i (k, names, has). new (known_found k n (sym (listed_append ns (n ∷ []) k (named_below i k names)) ∙ has)))
 
       -- and names each place
-      pub covers_more : length ns < length slots → length ns < 65535 → (r : Inserted) → Inserts n (length ns) slots to r → Covers to (length ns + 1)
-      covers_more room few (At i) placed = covers_inserts n (length ns) slots to i placed all
-      covers_more room few Full placed =
+      pub covers_more : length ns < length slots → length ns < 65535 → (r : Result ℕ NotEntered) → Inserts n (length ns) slots to r → Covers to (length ns + 1)
+      covers_more room few (Ok i) placed = covers_inserts n (length ns) slots to i placed all
+      covers_more room few (Err Full) placed =
           absurd (not_full_from_few numbers (listed ns) slots ix (length ns) (λ k m e. (below_listed ns k m e).0) room n (length ns) to placed)
-      covers_more room few NoEntry (many, _) = absurd (omega arith)
+      covers_more room few (Err NoEntry) (many, _) = absurd (omega arith)

@@ -10,8 +10,8 @@
 --     Holds cs p m slots     the record, the memory and the index are as the commands cs say
 --     Takes cs c p m slots   the command c may come after cs, and the record, the memory and the index are as both say
 --     Judged h cs c n        the number with which the well spelled command c is refused after cs
-use Rattle.std.specs.Prelude.{◌≡◌, ℕ, ◌+◌, ◌<◌, ◌≤◌, cond, ◌⊎◌, List, [], ◌∷◌, ◌++◌, length, take, drop, Some, None, Option, ◌≢◌, nat_lt, slice_index}
-use Rattle.tables.specs.declared.index.Inserted.{Inserted}
+use Rattle.std.specs.Prelude.{◌≡◌, ℕ, ◌+◌, ◌<◌, ◌≤◌, cond, ◌⊎◌, List, [], ◌∷◌, ◌++◌, length, take, drop, Some, None, Option, ◌≢◌, nat_lt, slice_index, Result}
+use Rattle.tables.specs.declared.index.NotEntered.{NotEntered}
 use Rattle.tables.specs.Indexes.{Absent, Indexed, Covers, Inserts}
 use Rattle.plans.specs.declared.plan.Road.{Road}
 use Rattle.plans.specs.Plans.{Head, road, Command, post, block, weigh, point, join, InRange, Fresh, Ended, Room, Good, joins}
@@ -36,7 +36,7 @@ abbrev pub BothEnds : (ℕ → Option ℕ) → ℕ → ℕ → ℕ → ℕ → T
 BothEnds at s t i j = (s ≢ t) × (at i ≡ Some s) × (at j ≡ Some t)
 
 abbrev pub Enters : ℕ → ℕ → List ℕ → List ℕ → Type 0
-Enters n k from to = (r : Inserted) × Inserts n k from to r
+Enters n k from to = (r : Result ℕ NotEntered) × Inserts n k from to r
 
 abbrev pub Known : List ℕ → ℕ → Type 0
 Known ns n = index_of ns n < length ns

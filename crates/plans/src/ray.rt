@@ -8,10 +8,7 @@ use kinds::crossing::{Crossing, Ray};
 pub(crate) fn forwards(number: u8) -> Crossing
     ensures { result ≡ ahead number }
 {
-    match Ray::from_number(number) {
-        Some(ray) => Crossing::Forwards(ray),
-        None => Crossing::None,
-    }
+    Ray::try_from(number).map_or(Crossing::None, Crossing::Forwards)
 }
 
 // The crossing that the byte stands for: 0 none, 1 to 7 forwards, 129 to 135 backwards.
