@@ -34,8 +34,8 @@ same_is Greater Less e = cc
 same_is Greater Equal e = cc
 same_is Greater Greater e = refl
 
--- computed at every pair of letters
-derived_by_rank : (x y : Letter) → ghosts.cmp x y ≡ letters.cmp x y
+-- the order that is derived is the order by rank: computed at every pair of letters
+pub derived_by_rank : (x y : Letter) → ghosts.cmp x y ≡ letters.cmp x y
 derived_by_rank x y =
     same_is _ _ (every (λ y. same (ghosts.cmp x y) (letters.cmp x y)) (every (λ x. list_all (λ y. same (ghosts.cmp x y) (letters.cmp x y)) alphabet) refl x) y)
 
