@@ -20,22 +20,6 @@ pub struct Stop {
     pub at: usize,
 }
 
-// Faults at the command that is read.
-pub(crate) const UNKNOWN_COMMAND: Stop = Stop {
-    fault: Fault::UnknownCommand,
-    at: 0,
-};
-
-pub(crate) const CUT_SHORT: Stop = Stop {
-    fault: Fault::CutShort,
-    at: 0,
-};
-
-pub(crate) const OUT_OF_RANGE: Stop = Stop {
-    fault: Fault::OutOfRange,
-    at: 0,
-};
-
 // The fault at the byte behind the end command.
 pub(crate) const AFTER_END: Stop = Stop {
     fault: Fault::AfterEnd,

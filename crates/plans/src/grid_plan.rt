@@ -7,7 +7,7 @@ ghost use Rattle.plans.specs.Holdings.{blank};
 ghost use Rattle.plans.specs.Grids.{place};
 ghost use Rattle.plans.specs.GridSteps.{Squared, Taken, PostJudged, PostAdded, Holds, GridRead};
 
-use crate::fault::{CUT_SHORT, Fault, OUT_OF_RANGE, Stop, UNKNOWN_COMMAND};
+use crate::fault::{Fault, Stop};
 use crate::grid::{BLOCKED, Spot};
 use crate::plan::{Grid, Post};
 use crate::reader::{Reader, read_commands};
@@ -102,7 +102,7 @@ impl GridReader<'_> {
         ensures said { GridRead self.old.grid self.old.memory.now (82 ∷ operands.now) self.new.grid self.new.memory.now result }
     {
         let [column, row, next @ ..] = operands else {
-            return Err(CUT_SHORT);
+            return Err(Fault::CutShort.into());
         };
         self.add_post(Post {
             column: *column,
@@ -118,7 +118,7 @@ impl GridReader<'_> {
         ensures said { GridRead self.old.grid self.old.memory.now (66 ∷ operands.now) self.new.grid self.new.memory.now result }
     {
         let [column, row, next @ ..] = operands else {
-            return Err(CUT_SHORT);
+            return Err(Fault::CutShort.into());
         };
         let place = self.place_of(Spot {
             column: *column,
@@ -135,7 +135,7 @@ impl GridReader<'_> {
         ensures said { GridRead self.old.grid self.old.memory.now (87 ∷ operands.now) self.new.grid self.new.memory.now result }
     {
         let [column, row, risk, next @ ..] = operands else {
-            return Err(CUT_SHORT);
+            return Err(Fault::CutShort.into());
         };
         let place = self.place_of(Spot {
             column: *column,
@@ -158,7 +158,7 @@ impl Reader for GridReader<'_> {
             b'R' => self.read_post(operands),
             b'B' => self.read_block(operands),
             b'W' => self.read_weigh(operands),
-            _ => Err(UNKNOWN_COMMAND),
+            _ => Err(Fault::UnknownCommand.into()),
         }
     }
 }
@@ -169,7 +169,7 @@ pub(crate) fn read_grid(operands: &[u8], memory: &mut [u8]) -> Result<Grid, Stop
     ensures { Opened (71 ∷ operands.now) memory.new result }
 {
     let [width, height, high, low, commands @ ..] = operands else {
-        return Err(CUT_SHORT);
+        return Err(Fault::CutShort.into());
     };
     let grid = Grid {
         width: *width,
@@ -179,7 +179,7 @@ pub(crate) fn read_grid(operands: &[u8], memory: &mut [u8]) -> Result<Grid, Stop
         count: 0,
     };
     if !grid.is_sized() {
-        return Err(OUT_OF_RANGE);
+        return Err(Fault::OutOfRange.into());
     }
     let mut reader = GridReader { grid, memory };
     read_commands(&mut reader, commands).map_err(|stop| stop.after(5))?;

@@ -8,6 +8,7 @@ pub struct Post {
 }
 
 // A grid: its sizes, its spacing in centimetres, and its posts in the order read.
+// The posts lie in places of their own, since there is no heap; how many of them count may be any number.
 #[derive(Clone, Copy, PartialEq, Eq, Debug)]
 pub struct Grid {
     pub width: u8,

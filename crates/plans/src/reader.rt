@@ -3,7 +3,7 @@ ghost use Rattle.std.specs.Prelude.{◌≡◌, ℕ, List, [], ◌∷◌, ◌≢�
 ghost use Rattle.plans.specs.Plans.{Head, Command};
 ghost use Rattle.plans.specs.Steps.{Read, Stepped, Run};
 
-use crate::fault::{AFTER_END, CUT_SHORT, Stop};
+use crate::fault::{AFTER_END, Fault, Stop};
 
 // What takes up the commands of one kind of plan.
 pub(crate) trait Reader {
@@ -34,7 +34,7 @@ fn step<'a, R: Reader>(reader: &mut R, left: &'a [u8]) -> Result<Option<&'a [u8]
         [b'E'] => Ok(None),
         [b'E', ..] => Err(AFTER_END),
         [letter, operands @ ..] => Ok(Some(reader.take(*letter, operands)?)),
-        [] => Err(CUT_SHORT),
+        [] => Err(Fault::CutShort.into()),
     }
 }
 

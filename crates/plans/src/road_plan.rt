@@ -8,7 +8,7 @@ ghost use Rattle.plans.specs.RoadPlans.{lane_bytes, Accepts};
 ghost use Rattle.plans.specs.Holdings.{blank};
 ghost use Rattle.plans.specs.RoadSteps.{put, Finds, Enters, NoEnds, BothEnds, Holds, Takes, Judged};
 
-use crate::fault::{Fault, Stop, UNKNOWN_COMMAND};
+use crate::fault::{Fault, Stop};
 use crate::plan::Road;
 use crate::ray::crossing_of;
 use crate::reader::{Reader, read_commands};
@@ -69,7 +69,7 @@ fn is_other(first: u32, second: u32) -> bool
     first != second
 }
 
-// Whether there is room for one more point.
+// Whether there is room for one more point. Apart from the next, since each names a limit of its own, and one for both would only be `<`.
 fn has_point_room(points: u16) -> bool
     ensures { Decides result (points < 512) }
 {
@@ -216,7 +216,7 @@ impl Reader for RoadReader<'_> {
                 self.add_lane(join)?;
                 Ok(next)
             }
-            _ => Err(UNKNOWN_COMMAND),
+            _ => Err(Fault::UnknownCommand.into()),
         }
     }
 }

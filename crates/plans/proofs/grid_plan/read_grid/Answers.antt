@@ -17,9 +17,10 @@ returns-then-not-is_sized c =
     let xs = c.args.operands.now in
     let s = c.from_be_bytes.result in
     let four : 4 ≤ length xs = search rules in
-    refused_from_head (71 ∷ xs) (rest 4 xs) (grid (get_or xs 0 0) (get_or xs 1 0) s)
+    rw c.into-then-not-is_sized.ensures
+    (refused_from_head (71 ∷ xs) (rest 4 xs) (grid (get_or xs 0 0) (get_or xs 1 0) s)
     (spelled_grid xs s four c.from_be_bytes.ensures (omega (arith, c.type_inv.operands 3)))
-    (sized_from_head (get_or xs 0 0) (get_or xs 1 0) s (sym c.if-not-is_sized.ensures))
+    (sized_from_head (get_or xs 0 0) (get_or xs 1 0) s (sym c.if-not-is_sized.ensures)))
 
 along : {bytes m : List ℕ} {g : Grid} (n : List ℕ) → n ≡ m → Accepts bytes g m → Accepts bytes g n
 along {bytes} {m} {g} n e a = subst (λ (k : List ℕ). Accepts bytes g k) (sym e) a

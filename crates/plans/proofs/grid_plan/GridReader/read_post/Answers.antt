@@ -9,7 +9,7 @@ use Rattle.plans.proofs.GridWrites.{holds_post}
 use Rattle.plans.proofs.grid_plan.GridReader.read_post.Goals as goal
 
 pub returns-in_default-clause-said : goal.returns-in_default-clause-said
-returns-in_default-clause-said c = (omega arith, λ cs h. fault_short (head_of c.args.self.now.grid) cs 82 2 c.args.operands.now (inl (refl, refl)) (search rules))
+returns-in_default-clause-said c = rw c.into.ensures (omega arith, λ cs h. fault_short (head_of c.args.self.now.grid) cs 82 2 c.args.operands.now (inl (refl, refl)) (search rules))
 
 pub returns-in_err-add_post-clause-said : goal.returns-in_err-add_post-clause-said
 returns-in_err-add_post-clause-said c =
