@@ -1,5 +1,5 @@
 -- What is listed from a finished chart.
-use Rattle.std.proofs.Common.{◌≡◌, ℕ, zero, suc, ◌<◌, Bool, true, false, cond, ltb, leb, ◌⊎◌, List, [], ◌∷◌, map, length, get_or, take, set, Some, None, Ok, Err, filter, Option, Result, sym, refl, ap, ◌∙◌, subst, inl, inr, arith, MatchResult}
+use Rattle.std.proofs.Common.{◌≡◌, ℕ, zero, suc, ◌<◌, Bool, true, false, cond, ◌⊎◌, List, [], ◌∷◌, map, length, get_or, take, set, Some, None, Ok, Err, filter, Option, Result, sym, refl, ap, ◌∙◌, subst, inl, inr, arith, MatchResult}
 use Rattle.std.specs.Ordering.{is_gt}
 use Rattle.std.specs.List.Sorted.{IsPermutation}
 use Rattle.std.specs.List.{swap, ContainsAt as Has, AllByRecursion}
@@ -8,7 +8,6 @@ use Rattle.std.proofs.ByRecursion.{All-map, all_kept_by, all-has, all_has_itself
 use Rattle.std.proofs.lemmas.List.Sorted.{IsPermutation-keeps}
 use Rattle.std.proofs.lemmas.Bool.{cases_Bool, cases_eq, eqb-true, eq-eqb, true≢false}
 use Rattle.kinds.specs.declared.refusal.Refusal.{Refusal}
-use Rattle.kinds.specs.declared.refusal.Refusal.TheVariants.{NoChart, NoSuchPoint, NotCovered}
 use Rattle.kinds.specs.declared.class.Class.{Ghosts as Classes}
 use Rattle.kinds.specs.declared.cost.Cost.{Ghosts as Costs}
 use Rattle.kinds.specs.Maps.{Site, LawfulEstimates}
@@ -22,7 +21,7 @@ use Rattle.charts.specs.declared.chart.Pair.{Pair}
 use Rattle.charts.specs.declared.chart.Chart.{Chart}
 use Rattle.charts.specs.declared.chart.Priced.{Priced}
 use Rattle.charts.specs.Charts.{Holds, Sound, Finished}
-use Rattle.charts.specs.Asking.{covering, on_ok, standing_of, asked_at}
+use Rattle.charts.specs.Asking.{covering, asked_at}
 use Rattle.charts.specs.Ranks.{by_cost}
 use Rattle.charts.specs.Listing.{is_at, priced, priced_at, Filled, ListsIn, ListsAt}
 use Rattle.charts.specs.Listed.{Names, Before, Lists, ListsTruly}
@@ -50,15 +49,7 @@ Moved a b m n = ((m ≡ b) × (n ≡ a)) ⊎ ((m ≡ a) × (n ≡ b)) ⊎ ((m �
 
 -- no two elements stood at one place
 pub moved_once : (a b m n m' n' : ℕ) → Moved a b m n → Moved a b m' n' → n ≡ n' → m ≡ m'
-moved_once a b m n m' n' (inl (e, f)) (inl (e', f')) h = omega arith
-moved_once a b m n m' n' (inl (e, f)) (inr (inl (e', f'))) h = omega arith
-moved_once a b m n m' n' (inl (e, f)) (inr (inr (x', y', f'))) h = omega arith
-moved_once a b m n m' n' (inr (inl (e, f))) (inl (e', f')) h = omega arith
-moved_once a b m n m' n' (inr (inl (e, f))) (inr (inl (e', f'))) h = omega arith
-moved_once a b m n m' n' (inr (inl (e, f))) (inr (inr (x', y', f'))) h = omega arith
-moved_once a b m n m' n' (inr (inr (x, y, f))) (inl (e', f')) h = omega arith
-moved_once a b m n m' n' (inr (inr (x, y, f))) (inr (inl (e', f'))) h = omega arith
-moved_once a b m n m' n' (inr (inr (x, y, f))) (inr (inr (x', y', f'))) h = omega arith
+moved_once a b m n m' n' h k e = grind arith
 
 -- every element stood somewhere
 pub exchanged_from : {X : Type 0} (xs : List X) (a b m : ℕ) → a < length xs → b < length xs → m < length xs →
@@ -222,27 +213,9 @@ module _ {C K : Type 0} (m : Site) (law : LawfulEstimates m) (b : Classes C) (c 
           (subst (λ (w : Priced C K). Cheapest m b.kind c.costs reel y.point (b.element w.class) w.cost) is
           (sound_has m b.kind b.element c.costs reel aim cable xs fin.sound y has).1)
 
--- a chart that stands is the one that was given
-pub standing_is : (o : Option Chart) (h k : Chart) (n : ℕ) → o ≡ Some h → standing_of o n ≡ Ok k → h ≡ k
-standing_is None h k n e asked = let z : ◌≡◌ {A = ℕ} 0 1 = cc in absurd (omega arith)
-standing_is (Some i) h k n e asked = go (ltb n i.pairs) asked
-  where
-    go : (t : Bool) → cond t (Err NoChart) (Ok i) ≡ Ok k → h ≡ k
-    go true f = let z : ◌≡◌ {A = ℕ} 0 1 = cc in absurd (omega arith)
-    go false f = cc
-
--- a chart that may be asked at a point stands and covers it
-pub asked_covers : (s : Result Chart Refusal) (k : Chart) (p : ℕ) → on_ok s (λ h. cond (leb h.points p) (Err NoSuchPoint) (cond (covering h.aim p) (Ok h) (Err NotCovered))) ≡ Ok k →
-    (s ≡ Ok k) × (covering k.aim p ≡ true)
-asked_covers (Err e) k p asked = let z : ◌≡◌ {A = ℕ} 0 1 = cc in absurd (omega arith)
-asked_covers (Ok i) k p asked =
-    let (same, covers) = go (leb i.points p) (covering i.aim p) asked in
-    (ap Ok same, ap (λ (j : Chart). covering j.aim p) (sym same) ∙ covers)
-  where
-    go : (t u : Bool) → cond t (Err NoSuchPoint) (cond u (Ok i) (Err NotCovered)) ≡ Ok k → (i ≡ k) × (u ≡ true)
-    go true u f = let z : ◌≡◌ {A = ℕ} 0 1 = cc in absurd (omega arith)
-    go false true f = (cc, refl)
-    go false false f = let z : ◌≡◌ {A = ℕ} 0 1 = cc in absurd (omega arith)
+-- a chart that may be asked at a point is the one that was given, and covers it
+pub asked_is : (o : Option Chart) (h k : Chart) (n p : ℕ) → o ≡ Some h → asked_at o n p ≡ Ok k → (k ≡ h) × (covering h.aim p ≡ true)
+asked_is o h k n p is asked = grind arith
 
 -- so what `list` says holds of the map that was charted
 pub lists_truly : {C K : Type 0} (b : Classes C) (c : Costs K) (o : Option Chart) (xs : List (Pair C K)) (p : ℕ) (from to : List (Priced C K)) (r : Result ℕ Refusal) →
@@ -252,8 +225,7 @@ lists_truly {C = C} {K = K} b c o xs p from to r lists m h cable n law is fin ok
     go : (s : Result Chart Refusal) → asked_at o (length xs) p ≡ s → MatchResult s (λ k. ListsIn b c (take k.pairs xs) p from to r) (λ e. (r ≡ Err e) × (to ≡ from)) →
         Lists b.kind b.element c.costs m h.reel cable p (take n to)
     go (Ok k) asked listed =
-        let (stands, covers) = asked_covers (standing_of o (length xs)) k p asked in
-        let same : k ≡ h = sym (standing_is o h k (length xs) is stands) in
-        lists_finished m law b c h.reel h.aim cable (take h.pairs xs) p fin (subst (λ (j : Chart). covering j.aim p ≡ true) same covers) from to n
+        let (same, covers) = asked_is o h k (length xs) p is asked in
+        lists_finished m law b c h.reel h.aim cable (take h.pairs xs) p fin covers from to n
         (subst (λ (j : Chart). ListsIn b c (take j.pairs xs) p from to (Ok n)) same (subst (ListsIn b c (take k.pairs xs) p from to) ok listed))
-    go (Err e) asked (f, g) = let z : ◌≡◌ {A = ℕ} 0 1 = cc in absurd (omega arith)
+    go (Err e) asked (f, g) = absurd cc

@@ -1,10 +1,11 @@
 -- What the links of a finished chart say of the map.
-use Rattle.std.proofs.Common.{◌≡◌, ℕ, zero, suc, ◌<◌, Bool, true, false, cond, ltb, leb, ◌⊎◌, List, [], ◌∷◌, ◌++◌, reverse, length, take, drop, Some, None, Ok, Err, Option, Result, sym, refl, ap, ◌∙◌, subst, inl, inr, arith, MatchResult}
+use Rattle.std.proofs.Common.{◌≡◌, ℕ, zero, suc, ◌<◌, true, ◌⊎◌, List, [], ◌∷◌, ◌++◌, reverse, length, take, drop, Some, Ok, Err, Option, Result, sym, refl, ap, ◌∙◌, subst, inl, inr, arith, MatchResult}
 use Rattle.std.proofs.lemmas.List.{map_push, reverse-append, length-reverse, length-take-le, take_at}
 use Rattle.std.proofs.lemmas.Bool.{cases_Bool, false≢true}
+use Rattle.std.proofs.lemmas.Option.{same_Some}
 use Rattle.kinds.specs.declared.lane.Lane.{Lane}
 use Rattle.kinds.specs.declared.refusal.Refusal.{Refusal}
-use Rattle.kinds.specs.declared.refusal.Refusal.TheVariants.{NoChart, NoSuchPoint, NotCovered, NoRun}
+use Rattle.kinds.specs.declared.refusal.Refusal.TheVariants.{NoRun}
 use Rattle.kinds.specs.declared.class.Class.{Ghosts as Classes}
 use Rattle.kinds.specs.declared.cost.Cost.{Ghosts as Costs}
 use Rattle.kinds.specs.Orders.{Under}
@@ -18,14 +19,14 @@ use Rattle.kinds.proofs.Runs.{run_end, run_push, class_push, cost_push, runs_at_
 use Rattle.charts.specs.declared.chart.Pair.{Pair}
 use Rattle.charts.specs.declared.chart.Chart.{Chart}
 use Rattle.charts.specs.Charts.{Stands, Holds, Precedes, Linked, Finished}
-use Rattle.charts.specs.Asking.{covering, on_ok, standing_of, asked_at}
+use Rattle.charts.specs.Asking.{covering, asked_at}
 use Rattle.charts.specs.Finding.{is_pair, Matches, FirstAt}
 use Rattle.charts.specs.Trails.{Home, Leads, Runs, RunsIn, WritesRun}
 use Rattle.charts.specs.Laid.{stops, Laid, LaysTruly}
 use Rattle.charts.proofs.Stands.{none_below, stands_some, stands_unique, stands_take}
 use Rattle.charts.proofs.Searches.{pair_passes, passes_pair}
-use Rattle.charts.proofs.Trails.{some_same, leads_on}
-use Rattle.charts.proofs.Joining.{sound_has, covered_tail, standing_is, asked_covers}
+use Rattle.charts.proofs.Trails.{leads_on}
+use Rattle.charts.proofs.Joining.{sound_has, covered_tail, asked_is}
 
 module _ {C K : Type 0} (b : Classes C) (p : ℕ) (a : C) where
   -- a first place, behind one that is not it
@@ -110,7 +111,7 @@ module _ {C K : Type 0} (m : Site) (law : Lawful m) (b : Classes C) (c : Costs K
           ((z : Pair C K) → Stands xs j z → Along z (q ∷ ps)) → Along y (p ∷ (q ∷ ps))
       go (inl home) rest = absurd (off home)
       go (inr (off', (j', z, link', lt, atz, (n, lane, named, to, class, cost)))) rest =
-          let (ns, ls, run, f, g, s) = rest z (subst (λ (k : ℕ). Stands xs k z) (some_same j' j (sym link' ∙ link)) atz) in (
+          let (ns, ls, run, f, g, s) = rest z (subst (λ (k : ℕ). Stands xs k z) (same_Some j' j (sym link' ∙ link)) atz) in (
             ns ++ (n ∷ []),
             ls ++ (lane ∷ []),
             subst (Run m reel (ns ++ (n ∷ [])) (ls ++ (lane ∷ []))) to (run_push m law.lanes reel ns ls z.point n lane run named),
@@ -150,23 +151,8 @@ module _ {C K : Type 0} (m : Site) (law : Lawful m) (b : Classes C) (c : Costs K
       (i, ps, (f, h))
 
 -- a chart that may not be asked is not refused for want of a run
-pub standing_refused : (o : Option Chart) (n : ℕ) → standing_of o n ≡ Err NoRun → ⊥
-standing_refused None n e = let z : ◌≡◌ {A = ℕ} 0 1 = cc in omega arith
-standing_refused (Some i) n e = go (ltb n i.pairs) e
-  where
-    go : (t : Bool) → cond t (Err NoChart) (Ok i) ≡ Err NoRun → ⊥
-    go true f = let z : ◌≡◌ {A = ℕ} 0 1 = cc in omega arith
-    go false f = let z : ◌≡◌ {A = ℕ} 0 1 = cc in omega arith
-
--- nor is one that stands
-pub asked_refused : (s : Result Chart Refusal) (p : ℕ) → on_ok s (λ h. cond (leb h.points p) (Err NoSuchPoint) (cond (covering h.aim p) (Ok h) (Err NotCovered))) ≡ Err NoRun → s ≡ Err NoRun
-asked_refused (Err e) p asked = cc
-asked_refused (Ok i) p asked = absurd (go (leb i.points p) (covering i.aim p) asked)
-  where
-    go : (t u : Bool) → cond t (Err NoSuchPoint) (cond u (Ok i) (Err NotCovered)) ≡ Err NoRun → ⊥
-    go true u f = let z : ◌≡◌ {A = ℕ} 0 1 = cc in omega arith
-    go false true f = let z : ◌≡◌ {A = ℕ} 0 1 = cc in omega arith
-    go false false f = let z : ◌≡◌ {A = ℕ} 0 1 = cc in omega arith
+pub asked_refused : (o : Option Chart) (n p : ℕ) → asked_at o n p ≡ Err NoRun → ⊥
+asked_refused o n p asked = grind arith
 
 -- what `write_run` says of its answer holds of the map that was charted
 pub lays_truly : {C K : Type 0} (b : Classes C) (c : Costs K) (o : Option Chart) (xs : List (Pair C K)) (p : ℕ) (a : C) (from to : List ℕ) (r : Result ℕ Refusal) →
@@ -183,18 +169,17 @@ lays_truly {C = C} {K = K} b c o xs p a from to r writes m h cable law is fin = 
 
     lost : covering h.aim p ≡ true → RunsIn b h.reel counted p a from to (Err NoRun) → Lies m b.kind c.costs h.reel cable p (b.element a) → ⊥
     lost covers (same, inl (e, none)) l = let (i, ps, runs) = lies_runs m law b c h.reel h.aim cable counted fin p a covers l in none i ps runs
-    lost covers (same, inr (e, short)) l = let z : ◌≡◌ {A = ℕ} 0 1 = cc in omega arith
+    lost covers (same, inr (e, short)) l = cc
 
     go : (s : Result Chart Refusal) → asked_at o (length xs) p ≡ s → MatchResult s (λ k. RunsIn b k.reel (take k.pairs xs) p a from to r) (λ e. (r ≡ Err e) × (to ≡ from)) →
         ((n : ℕ) → r ≡ Ok n → Laid m b.kind c.costs h.reel cable p (b.element a) (take n to)) × (r ≡ Err NoRun → Lies m b.kind c.costs h.reel cable p (b.element a) → ⊥)
     go (Ok k) asked written =
-        let (stands, covers) = asked_covers (standing_of o (length xs)) k p asked in
-        let same : k ≡ h = sym (standing_is o h k (length xs) is stands) in
+        let (same, covers) = asked_is o h k (length xs) p is asked in
         let runs : RunsIn b h.reel counted p a from to r = subst (λ (j : Chart). RunsIn b j.reel (take j.pairs xs) p a from to r) same written in (
           λ n ok. laid n (subst (RunsIn b h.reel counted p a from to) ok runs),
-          λ none. lost (subst (λ (j : Chart). covering j.aim p ≡ true) same covers) (subst (RunsIn b h.reel counted p a from to) none runs),
+          λ none. lost covers (subst (RunsIn b h.reel counted p a from to) none runs),
         )
     go (Err e) asked (refused, same) = (
-      λ n ok. let z : ◌≡◌ {A = ℕ} 0 1 = cc in absurd (omega arith),
-      λ none l. standing_refused o (length xs) (asked_refused (standing_of o (length xs)) p (let z : asked_at o (length xs) p ≡ Err NoRun = cc in z)),
+      λ n ok. absurd cc,
+      λ none l. asked_refused o (length xs) p (asked ∙ cc),
     )

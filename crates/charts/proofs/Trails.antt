@@ -1,7 +1,7 @@
 -- Runs along links: from one place there is one at most, and it is no longer than there are places.
 use Rattle.std.proofs.Common.{◌≡◌, ℕ, zero, suc, ◌+◌, ◌<◌, ◌≤◌, false, ltb, List, [], ◌∷◌, ◌++◌, length, get_or, take, drop, set, Some, None, Ok, Err, Option, Result, MatchOption, sym, refl, ap, ◌∙◌, subst, inl, inr, arith}
 use Rattle.std.specs.Option.{ok_or}
-use Rattle.std.proofs.lemmas.Option.{MatchOption-at_some}
+use Rattle.std.proofs.lemmas.Option.{MatchOption-at_some, same_Some}
 use Rattle.std.proofs.lemmas.List.{length-drop, length-set, get_or_default, drop_more, take_more, take_more_set}
 use Rattle.std.proofs.lemmas.Bool.{cases_Bool, cond-true, cond-false, ltb-true, lt-ltb, false≢true}
 use Rattle.kinds.specs.declared.refusal.Refusal.{Refusal}
@@ -14,10 +14,6 @@ use Rattle.charts.specs.Finding.{Finds}
 use Rattle.charts.specs.Trails.{on_link, Home, is_home, next_of, Leads, Counts, RunsIn}
 use Rattle.charts.proofs.Searches.{pair_passes, passes_pair, nowhere_first, first_once}
 use Rattle.charts.proofs.Stands.{none_below, stands_unique}
-
--- a link names one place
-pub some_same : (i j : ℕ) → Some i ≡ Some j → i ≡ j
-some_same i j e = cc
 
 -- the place that a link names, 0 if there is none
 abbrev link_of : Option ℕ → ℕ
@@ -42,7 +38,7 @@ module _ {C K : Type 0} (b : Classes C) (reel : ℕ) (xs : List (Pair C K)) wher
   leads_once i (p ∷ (q ∷ ps)) (r ∷ []) (x, l, a, e, f, n) (y, m, d, g, t) = absurd (f (subst (Home b reel) (stands_unique xs i y x d a) t))
   leads_once i (p ∷ (q ∷ ps)) (r ∷ (s ∷ rs)) (x, l, a, e, f, (j, n, h)) (y, m, d, g, t, (j', o, k)) =
       let same : x ≡ y = stands_unique xs i x y a d in
-      let link : j ≡ j' = some_same j j' (sym n ∙ ap (λ (z : Pair C K). z.link) same ∙ o) in
+      let link : j ≡ j' = same_Some j j' (sym n ∙ ap (λ (z : Pair C K). z.link) same ∙ o) in
       let rest : (q ∷ ps) ≡ (s ∷ rs) = leads_once j (q ∷ ps) (s ∷ rs) h (subst (λ (z : ℕ). Leads b reel xs z (s ∷ rs)) (sym link) k) in
       let head : p ≡ r = sym e ∙ ap (λ (z : Pair C K). z.point) same ∙ g in
       λ w. head w ∷ rest w
@@ -115,7 +111,7 @@ module _ {C K : Type 0} (b : Classes C) (reel : ℕ) (xs : List (Pair C K)) wher
       link off (Some j) e = elim (cases_Bool (ltb j n)) [
         | inl t ↦ subst (Next n x) (sym (cond-true (ltb j n) (Ok (Some j)) (Err NoRun) t)) (off, e, ltb-true j n t)
         | inr t ↦ subst (Next n x) (sym (cond-false (ltb j n) (Ok (Some j)) (Err NoRun) t))
-            (refl, off, λ k f l. false≢true (sym t ∙ lt-ltb j n (subst (λ (i : ℕ). i < n) (some_same k j (sym f ∙ e)) l)))
+            (refl, off, λ k f l. false≢true (sym t ∙ lt-ltb j n (subst (λ (i : ℕ). i < n) (same_Some k j (sym f ∙ e)) l)))
       ]
 
   -- after n links from i the place is j: runs from there are the rest of runs from i
@@ -143,7 +139,7 @@ module _ {C K : Type 0} (b : Classes C) (reel : ℕ) (xs : List (Pair C K)) wher
             back = λ qs h.
                 let (ps, h', len) = so.back qs h in
                 let (k', rs, link', h'', more) = leads_rest j at_place ps stands off h' in
-                (rs, subst (λ (z : ℕ). Leads b reel xs z rs) (some_same k' k (sym link' ∙ link)) h'', omega arith);
+                (rs, subst (λ (z : ℕ). Leads b reel xs z rs) (same_Some k' k (sym link' ∙ link)) h'', omega arith);
           },
         )
 
@@ -213,11 +209,11 @@ module _ {C K : Type 0} (b : Classes C) (reel : ℕ) (xs : List (Pair C K)) (p :
   -- a pair that stands nowhere has none
   pub nowhere_runs : (o : Option ℕ) (e : Refusal) → Finds b xs p c o → Err e ≡ ok_or o NoRun → RunsIn b reel xs p c from from (Err e)
   nowhere_runs None e none is = (refl, inl (cc, λ i ps (f, h). nowhere_first b p c xs i none f))
-  nowhere_runs (Some i) e f is = absurd (let z : ◌≡◌ {A = ℕ} 0 1 = cc in omega arith)
+  nowhere_runs (Some i) e f is = absurd cc
 
   -- nor one whose first place does not lead home
   pub lost_runs : (o : Option ℕ) (i : ℕ) (e : Refusal) → Finds b xs p c o → Ok i ≡ ok_or o NoRun → Counts b reel xs i (Err e) → RunsIn b reel xs p c from from (Err e)
-  lost_runs None i e none is lost = absurd (let z : ◌≡◌ {A = ℕ} 0 1 = cc in omega arith)
+  lost_runs None i e none is lost = absurd cc
   lost_runs (Some j) i e f is (no-run, none) =
       let same : j ≡ i = cc in
       (refl, inl (no-run, λ k ps (f', h). none ps (subst (λ (m : ℕ). Leads b reel xs m ps) (first_once b p c xs k j f' f ∙ same) h)))

@@ -14,7 +14,7 @@ pub fn first_place<C: Class, K: Cost>(pairs: &[Pair<C, K>], point: u16, class: &
     place_of(pairs, point, class)
 }
 
-// The same, said as `position` says it.
+// The same, said as `position` says it; written in `first_place`, the check did not find the proof of `Finds`.
 fn place_of<C: Class, K: Cost>(pairs: &[Pair<C, K>], point: u16, class: &C) -> Option<usize>
     ensures { result ≡ position (matches C.Class point class.now) pairs.now }
 {

@@ -90,6 +90,7 @@ impl<C: Class, K: Cost> Charted<'_, C, K> {
     }
 
     // Lists the counted pairs at the point, if the chart may be asked there.
+    // Apart from `list`: written there, the check did not find the proof of `exact`.
     fn list_asked(&self, point: u16, list: &mut [Priced<C, K>]) -> Result<usize, Refusal>
         ensures { ListsAt C.Class K.Cost self.now.head self.now.places.now point list.old list.new result }
     {

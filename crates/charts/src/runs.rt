@@ -99,6 +99,7 @@ impl<C: Class, K: Cost> Charted<'_, C, K> {
     }
 
     // Writes the run of a pair among those that count, if the chart may be asked at the point.
+    // Apart from `write_run`: written there, the check did not find the proof of `exact`.
     fn write_asked(&self, point: u16, class: &C, buffer: &mut [u16]) -> Result<usize, Refusal>
         ensures { WritesRun C.Class self.now.head self.now.places.now point class.now buffer.old buffer.new result }
     {

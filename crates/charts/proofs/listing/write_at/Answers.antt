@@ -9,8 +9,7 @@ loop-item-preserved g c =
     let found = left_found _ (is_at c.args.point) _ (λ x b q k. search (rules, tests)) c.loop-item.rest c.find.new.self c.find.result c.find.ensures.ran in
     elim c.match-find.branch [
       | in-Some w ↦
-          gathered_more c.args.point c.args.pairs.now c.loop-item.item-index _ _ c.loop-item.list c.find.result c.loop-item.invariant (omega arith) (omega arith) found w.in-Some.pair c.match-find.list
-          w.in-Some.is (w.list-is ∙ ap (set c.loop-item.list c.loop-item.item-index) w.price_of.ensures)
-      | in_default w ↦
-          absurd (gathered_next c.args.point c.args.pairs.now c.loop-item.item-index _ _ c.loop-item.list c.find.result c.loop-item.invariant (omega arith) (omega arith) found w.in_default.is)
+          gathered_more _ _ _ _ _ _ _ c.loop-item.invariant (omega arith) (omega arith) found w.in-Some.pair c.match-find.list w.in-Some.is
+          (w.list-is ∙ ap (set c.loop-item.list c.loop-item.item-index) w.price_of.ensures)
+      | in_default w ↦ absurd (gathered_next _ _ _ _ _ _ _ c.loop-item.invariant (omega arith) (omega arith) found w.in_default.is)
     ]
