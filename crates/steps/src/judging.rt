@@ -1,5 +1,5 @@
-// What charting refuses before any search, and what it leaves when it ends.
-ghost use Rattle.std.specs.Prelude.{◌≡◌, ◌*◌, ◌<◌, ◌≤◌, Decides};
+// The sizes that charting wants of memory, what its search comes to, and what it leaves when it ends.
+ghost use Rattle.std.specs.Prelude.{◌≡◌, ◌*◌, ◌≤◌, Decides};
 ghost use Rattle.steps.specs.Ends.{VacantPlace, VacantRecord, or_too_large, kept_by};
 
 use crate::open::Open;
@@ -11,21 +11,11 @@ use kinds::refusal::Refusal;
 // The largest number of chart places.
 const MOST_PLACES: usize = 4096;
 
-// The largest cable number.
-const LONGEST_CABLE: u32 = 1_000_000;
-
 // Whether the memory has its sizes: n chart places, n queue places and 2n slots, n from 1 to 4,096.
 pub fn has_sizes(places: usize, queue: usize, slots: usize) -> bool
     ensures { Decides result ((1 ≤ places) × (places ≤ 4096) × (queue ≡ places) × (slots ≡ 2 * places)) }
 {
     (1..=MOST_PLACES).contains(&places) && queue == places && slots == 2 * places
-}
-
-// Whether the cable number is too large.
-pub(crate) fn is_too_long(cable: u32) -> bool
-    ensures { Decides result (1000000 < cable) }
-{
-    cable > LONGEST_CABLE
 }
 
 // What the search comes to: the number of pairs, or that the reach is too large.

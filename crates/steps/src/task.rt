@@ -1,17 +1,19 @@
 // A map with what charting on it is asked for: what is wrong with that, the cost of a pair with the tail at its point,
 // whether that is within the cable, and the head of the chart.
-ghost use Rattle.std.specs.Prelude.{◌≡◌, Decides};
+ghost use Rattle.std.specs.Prelude.{◌≡◌, ◌<◌, Decides};
 ghost use Rattle.std.specs.declared.cmp.Ordering.TheVariants.{Less};
 ghost use Rattle.kinds.specs.Orders.{Under};
 ghost use Rattle.kinds.specs.Reaches.{tail, Within};
 ghost use Rattle.steps.specs.Ends.{Pointless, Judged, head_of};
 
 use crate::asked::Asked;
-use crate::judging::is_too_long;
 use charts::chart::Chart;
 use kinds::cost::Cost;
 use kinds::map::Map;
 use kinds::refusal::Refusal;
+
+// The largest cable number.
+const LONGEST_CABLE: u32 = 1_000_000;
 
 #[derive(Drop)]
 pub struct Task<'a, M> {
@@ -78,6 +80,13 @@ impl<M: Map> Task<'_, M> {
         let bound: K = self.bound_at(point, cost);
         is_under(&bound, &K::limit(self.asked.cable))
     }
+}
+
+// Whether the cable number is too large.
+fn is_too_long(cable: u32) -> bool
+    ensures { Decides result (1000000 < cable) }
+{
+    cable > LONGEST_CABLE
 }
 
 // Whether one cost is not above another.
