@@ -1,8 +1,8 @@
 -- What charting answers, case by case.
-use Rattle.std.proofs.Common.{◌≡◌, ℕ, ◌<◌, ◌≤◌, List, length, take, Some, None, Ok, Err, Option, Result, sym, refl, subst, inl, inr, arith, MatchOption}
+use Rattle.std.proofs.Common.{◌≡◌, ℕ, ◌<◌, ◌≤◌, List, length, take, Ok, Err, Option, Result, sym, refl, subst, inl, inr, arith}
+use Rattle.std.specs.Result.{IfOk, IfErr, MatchResult}
 use Rattle.std.proofs.lemmas.Bool.{cases_lt}
 use Rattle.kinds.specs.declared.refusal.Refusal.{Refusal}
-use Rattle.kinds.specs.declared.refusal.Refusal.TheVariants.{NoSuchPoint, CableTooLong}
 use Rattle.kinds.specs.Maps.{Site}
 use Rattle.kinds.specs.declared.class.Class.{Ghosts as Classes}
 use Rattle.kinds.specs.declared.cost.Cost.{Ghosts as Costs}
@@ -11,31 +11,25 @@ use Rattle.charts.specs.declared.chart.Chart.{Chart}
 use Rattle.charts.specs.Charts.{Finished}
 use Rattle.steps.specs.declared.asked.Asked.{Asked}
 use Rattle.steps.specs.declared.open.Open.{Open}
-use Rattle.charting.specs.Charts.{Fits, Pointless, Judged, VacantFrom, VacantQueue, VacantSlots, or_too_large, kept_by, head_of, TooLarge, Answers, Charts}
-use Rattle.charting.specs.Searches.{Complete}
-
-never_none : {X : Type 0} (x : X) → Some x ≡ None → ⊥
-never_none x e = let z : ◌≡◌ {A = ℕ} 0 1 = cc in omega arith
-
-same_some : {X : Type 0} (x y : X) → Some x ≡ Some y → x ≡ y
-same_some x y e = cc
+use Rattle.charting.specs.Charts.{Fits, Pointless, Judged, VacantFrom, VacantQueue, VacantSlots, kept_by, head_of, TooLarge, Answers, Charts}
+use Rattle.charting.specs.Searches.{Complete, TooMany}
 
 module _ (m : Site) (q : Asked) where
   -- nothing is wrong
-  pub judged_lawful : (r : Option Refusal) → Judged m q r → r ≡ None → (Pointless m q → ⊥) × (q.cable ≤ 1000000)
-  judged_lawful r (Judged.pointless p) e = absurd (never_none NoSuchPoint e)
-  judged_lawful r (Judged.long np l) e = absurd (never_none CableTooLong e)
-  judged_lawful r (Judged.lawful np l) e = (np, l)
+  pub judged_lawful : (r : Result (Unit {0}) Refusal) → Judged m q r → IfOk r (λ _. (Pointless m q → ⊥) × (q.cable ≤ 1000000))
+  judged_lawful r (Judged.pointless p) = tt
+  judged_lawful r (Judged.long np l) = tt
+  judged_lawful r (Judged.lawful np l) = (np, l)
 
   pub reel_here : (Pointless m q → ⊥) → q.reel < m.points
   reel_here np = elim (cases_lt q.reel m.points) [ inl lt ↦ lt | inr le ↦ absurd (np (inl le)) ]
 
 module _ {C K : Type 0} (m : Site) (b : Classes C) (c : Costs K) (q : Asked) where
   -- something is
-  pub judged_wrong : (n : ℕ) (xs : List (Pair C K)) (r : Option Refusal) (e : Refusal) → Judged m q r → r ≡ Some e → Answers m b c q n xs (Err e)
-  judged_wrong n xs r e (Judged.pointless p) f = subst (λ (x : Refusal). Answers m b c q n xs (Err x)) (same_some NoSuchPoint e f) (Answers.no_point p)
-  judged_wrong n xs r e (Judged.long np l) f = subst (λ (x : Refusal). Answers m b c q n xs (Err x)) (same_some CableTooLong e f) (Answers.too_long np l)
-  judged_wrong n xs r e (Judged.lawful np l) f = absurd (never_none e (sym f))
+  pub judged_wrong : (n : ℕ) (xs : List (Pair C K)) (r : Result (Unit {0}) Refusal) → Judged m q r → IfErr r (λ e. Answers m b c q n xs (Err e))
+  judged_wrong n xs r (Judged.pointless p) = Answers.no_point p
+  judged_wrong n xs r (Judged.long np l) = Answers.too_long np l
+  judged_wrong n xs r (Judged.lawful np l) = tt
 
   -- the answer stands if the places of the chart stay, whatever is written to the others
   pub answers_kept : (n : ℕ) (xs ys : List (Pair C K)) (r : Result ℕ Refusal) → Answers m b c q n xs r → length ys ≡ length xs → ((k : ℕ) → r ≡ Ok k → take k ys ≡ take k xs) → Answers m b c q n ys r
@@ -49,9 +43,14 @@ module _ {C K : Type 0} (m : Site) (b : Classes C) (c : Costs K) (q : Asked) whe
       )
 
   -- what the search comes to, over places that end as xs
-  pub search_answers : (n : ℕ) (xs : List (Pair C K)) (o : Option ℕ) → (Pointless m q → ⊥) → q.cable ≤ 1000000 → length xs ≡ n → MatchOption o (TooLarge m b c q n) (Complete m b c q xs) → Answers m b c q n xs (or_too_large o)
-  search_answers n xs None np le long h = Answers.too_large np le h
-  search_answers n xs (Some k) np le long h = Answers.charted np le (λ t. h.exact (subst (TooLarge m b c q) (sym long) t)) (h.room, h.finished)
+  pub search_answers : (n : ℕ) (xs : List (Pair C K)) (r : Result ℕ Refusal) → (Pointless m q → ⊥) → q.cable ≤ 1000000 → length xs ≡ n → MatchResult r (Complete m b c q xs) (TooMany m b c q n) → Answers m b c q n xs r
+  search_answers n xs (Err e) np le long (is, large) = subst (λ (e : Refusal). Answers m b c q n xs (Err e)) (sym is) (Answers.too_large np le large)
+  search_answers n xs (Ok k) np le long h = Answers.charted np le (λ t. h.exact (subst (TooLarge m b c q) (sym long) t)) (h.room, h.finished)
+
+  -- the places that are kept are among all
+  pub kept_within : (n : ℕ) (xs : List (Pair C K)) (r : Result ℕ Refusal) → Answers m b c q n xs r → kept_by r ≤ length xs
+  kept_within n xs (Ok k) (Answers.charted np l exact (room, finished)) = room
+  kept_within n xs (Err e) answers = omega arith
 
   -- the memory as it is left: the places that are kept stay, and the rest is vacant
   pub charts_so : (head : Option Chart) (places : List (Pair C K)) (queue : List (Open K)) (slots : List ℕ) (mid places' : List (Pair C K)) (queue' : List (Open K)) (slots' : List ℕ) (r : Result ℕ Refusal) →

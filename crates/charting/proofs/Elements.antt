@@ -1,10 +1,11 @@
 -- The elements of a list and one more, and an element taken out of a list.
-use Rattle.std.proofs.Common.{◌≡◌, ℕ, zero, suc, ◌<◌, eqb, ◌⊎◌, List, [], ◌∷◌, length, set, MatchBool, sym, refl, subst, inl, inr, suc-le-suc, arith}
+use Rattle.std.proofs.Common.{◌≡◌, ℕ, zero, suc, ◌<◌, eqb, ◌⊎◌, List, [], ◌∷◌, length, get_or, set, MatchBool, sym, refl, ap, ◌∙◌, subst, inl, inr, suc-le-suc, arith}
 use Rattle.std.specs.List.Sorted.{IsPermutation}
 use Rattle.std.specs.List.{ContainsAt as Has}
 use Rattle.std.proofs.lemmas.List.Sorted.{IsPermutation-refl, IsPermutation-cons, IsPermutation-trans, IsPermutation-swap}
 use Rattle.std.proofs.lemmas.Bool.{cases_eq, eq-eqb, ne_eqb}
 use Rattle.charts.specs.Charts.{Stands}
+use Rattle.charts.proofs.Stands.{stands_some}
 
 module _ {X : Type 0} where
   pub has_first : (x : X) (xs : List X) → Has (x ∷ xs) x
@@ -50,3 +51,7 @@ nil_from_length (x ∷ xs) e = absurd (never (length xs) e)
   where
     never : (n : ℕ) → suc n ≡ 0 → ⊥
     never n e = omega arith
+
+-- what a read at the place gives stands there
+pub stands_got : {X : Type 0} (xs : List X) (i j : ℕ) (d : X) → i < length xs → j ≡ i → Stands xs i (get_or xs j d)
+stands_got xs i j d lt e = let (x, at) = stands_some xs i lt in subst (Stands xs i) (sym (ap (λ a. get_or xs a d) e ∙ at d)) at

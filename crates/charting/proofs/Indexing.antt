@@ -1,9 +1,13 @@
 -- The index of the found pairs, while places are swapped, added and written.
-use Rattle.std.proofs.Common.{◌≡◌, ℕ, ◌+◌, ◌<◌, ◌≤◌, List, length, get_or, take, set, Some, None, sym, refl, ap, ◌∙◌, subst, inl, inr, arith, length-set, length-take-le}
+use Rattle.std.proofs.Common.{◌≡◌, ℕ, ◌+◌, ◌*◌, ◌<◌, ◌≤◌, List, length, get_or, take, set, Some, None, Ok, Err, Result, sym, refl, ap, ◌∙◌, subst, inl, inr, arith, length-set, length-take-le}
+use Rattle.std.specs.Result.{result_unwrap_or}
 use Rattle.std.proofs.lemmas.Bool.{cases_eq, cases_lt}
 use Rattle.kinds.specs.declared.class.Class.{Ghosts as Classes}
 use Rattle.tables.specs.declared.index.Found.{Found}
-use Rattle.tables.specs.Indexes.{Names, Absent, Indexed, Covers}
+use Rattle.tables.specs.declared.index.NotEntered.{NotEntered}
+use Rattle.tables.specs.declared.index.NotEntered.TheVariants.{Full, NoEntry}
+use Rattle.tables.specs.Indexes.{Names, Absent, Indexed, Covers, Inserts}
+use Rattle.tables.proofs.Crowding.{not_full_from_few}
 use Rattle.tables.proofs.Renaming.{indexed_elsewhere, names_once}
 use Rattle.tables.proofs.Swapping.{rewritten, indexed_swapped}
 use Rattle.charts.specs.declared.chart.Pair.{Pair}
@@ -126,3 +130,11 @@ module _ {C K : Type 0} (b : Classes C) where
   -- only found places have keys
   pub keys_few : (xs : List (Pair C K)) (n : ℕ) → n ≤ length xs → (k : ℕ) (m : (pair_keys b).Meaning) → pair_at b (take n xs) k ≡ Some m → k < n
   keys_few xs n room k m has = let (x, lt, _, _, _) = of_key xs n k m.0 m.1 room has in lt
+
+  -- a slot is left for the next pair, so the index takes it
+  pub inserts_so : (xs : List (Pair C K)) (slots slots' : List ℕ) (n h : ℕ) (r : Result ℕ NotEntered) → length xs ≤ 4096 → n < length xs → length slots ≡ 2 * length xs →
+      Indexed (pair_keys b) (pair_at b (take (n + 1) xs)) slots → Inserts h n slots slots' r → Inserts h n slots slots' (Ok (result_unwrap_or r 0))
+  inserts_so xs slots slots' n h (Ok i) few room slotted ix inserts = inserts
+  inserts_so xs slots slots' n h (Err Full) few room slotted ix inserts =
+      absurd (not_full_from_few (pair_keys b) (pair_at b (take (n + 1) xs)) slots ix (n + 1) (keys_few xs (n + 1) (omega arith)) (omega arith) h n slots' inserts)
+  inserts_so xs slots slots' n h (Err NoEntry) few room slotted ix inserts = absurd (omega (arith, inserts.0))

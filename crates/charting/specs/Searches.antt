@@ -5,9 +5,21 @@
 --                                  The slots name the found pairs, and the open ones wait in the queue
 --     Comes .. x i v               the number i names a lane from the pair x within the cable, and v is the pair that it leads to, at what this way costs
 --     Follows .. s i n v           v comes from the pair at the place s by the lane number i, whose lanes below i are followed
---     Meeting .. n v               v comes from some pair in that way
 --     Complete .. xs n             the first n of xs are a finished chart, and nothing was to be refused
-use Rattle.std.specs.Prelude.{◌≡◌, ℕ, ◌+◌, ◌*◌, ◌≤◌, List, length, take, Some}
+--     TooMany .. n e               e says that the reach is too large, and it has more than n pairs, or a class that is not held
+-- Of a search x, whose task, memory and numbers stand for those above:
+--     keys_at b x j                the key of the found pair at the place j
+--     Named b x                    the slots name the found pairs
+--     Lent x y                     y has the task and the memory of x
+--     Rests .. x                   all lanes of the settled pairs are followed
+--     AtHand .. x i                so they are, and the pair after them is settled too and its lanes below the number i followed
+--     Comes_by .. x i v            v comes from the pair at hand by the lane number i, whose lanes below i are followed
+--     Meeting .. x v               v comes from it by some lane
+--     Charted .. x                 the found pairs are a finished chart, and nothing was to be refused
+--     Refused .. x e               e says that the reach is too large, and so it is for the places of x
+use Rattle.std.specs.Prelude.{◌≡◌, ℕ, ◌+◌, ◌*◌, ◌≤◌, List, length, take, Some, Option}
+use Rattle.kinds.specs.declared.refusal.Refusal.{Refusal}
+use Rattle.kinds.specs.declared.refusal.Refusal.TheVariants.{ReachTooLarge}
 use Rattle.kinds.specs.declared.lane.Lane.{Lane}
 use Rattle.kinds.specs.Maps.{Site}
 use Rattle.kinds.specs.Classes.{crossed}
@@ -27,6 +39,7 @@ use Rattle.steps.specs.Opens.{by_bound}
 use Rattle.steps.specs.Keys.{pair_keys, pair_at}
 use Rattle.charting.specs.Waits.{Waits}
 use Rattle.charting.specs.Charts.{TooLarge}
+use Rattle.charting.specs.declared.memory.Search.{Search}
 
 pub record Sized {C K : Type 0} (xs : List (Pair C K)) (queue : Queue (Open K)) (slots : List ℕ) : Type 0 where
   pub few : length xs ≤ 4096
@@ -57,10 +70,45 @@ module _ {C K : Type 0} (m : Site) (b : Classes C) (c : Costs K) (q : Asked) whe
     pub comes : Comes from i lane v
     pub link : v.link ≡ Some s
 
-  abbrev pub Meeting : List (Pair C K) → Queue (Open K) → List ℕ → ℕ → Pair C K → Type 0
-  Meeting xs queue slots n v = (s : ℕ) × (i : ℕ) × Follows xs queue slots s i n v
-
   pub record Complete (xs : List (Pair C K)) (n : ℕ) : Type 0 where
     pub room : n ≤ length xs
     pub finished : Finished m b.kind b.element c.costs q.reel q.aim q.cable (take n xs)
     pub exact : TooLarge {C = C} m b c q (length xs) → ⊥
+
+  abbrev pub TooMany : ℕ → Refusal → Type 0
+  TooMany n e = (e ≡ ReachTooLarge) × TooLarge {C = C} m b c q n
+
+module _ {M C K : Type 0} where
+  abbrev pub keys_at : (b : Classes C) → Search M C K → ℕ → Option (pair_keys b).Meaning
+  keys_at b x = pair_at b (take x.found x.places.now)
+
+  pub record Named (b : Classes C) (x : Search M C K) : Type 0 where
+    pub few : length x.places.now ≤ 4096
+    pub room : x.found ≤ length x.places.now
+    pub indexed : Indexed (pair_keys b) (keys_at b x) x.slots.now
+    pub covers : Covers x.slots.now x.found
+
+  pub record Lent (x y : Search M C K) : Type 0 where
+    pub task : y.task ≡ x.task
+    pub held : y.places.ghost_name ≡ x.places.ghost_name
+    pub long : length y.places.now ≡ length x.places.now
+    pub queued : length (places y.queue.now) ≡ length (places x.queue.now)
+
+  module _ (site : M → Site) (b : Classes C) (c : Costs K) (x : Search M C K) where
+    abbrev pub Rests : Type 0
+    Rests = Searching (site x.task.now.map.now) b c x.task.now.asked x.places.now x.queue.now x.slots.now x.settled x.settled 0 x.found
+
+    abbrev pub AtHand : ℕ → Type 0
+    AtHand i = Searching (site x.task.now.map.now) b c x.task.now.asked x.places.now x.queue.now x.slots.now x.settled (x.settled + 1) i x.found
+
+    abbrev pub Comes_by : ℕ → Pair C K → Type 0
+    Comes_by i v = Follows (site x.task.now.map.now) b c x.task.now.asked x.places.now x.queue.now x.slots.now x.settled i x.found v
+
+    abbrev pub Meeting : Pair C K → Type 0
+    Meeting v = (i : ℕ) × Comes_by i v
+
+    abbrev pub Charted : Type 0
+    Charted = Complete (site x.task.now.map.now) b c x.task.now.asked x.places.now x.found
+
+    abbrev pub Refused : Refusal → Type 0
+    Refused e = TooMany (site x.task.now.map.now) b c x.task.now.asked (length x.places.now) e

@@ -2,10 +2,9 @@
 --     Swaps xs ys i j             ys is xs with the places i and j swapped
 --     Adds .. n v bound xs slots ws ys slots' vs   the pair v stands at the place n, a slot that was vacant names it, and it waits at its cost with that bound
 --     Lowers .. s x ws vs         the record x waits in the place of one with the slot s
-use Rattle.std.specs.Prelude.{◌≡◌, ℕ, ◌<◌, List, length, ◌≢◌, slice_index_or, slice_set}
+use Rattle.std.specs.Prelude.{◌≡◌, ℕ, ◌<◌, List, length, Ok, ◌≢◌, slice_index_or, slice_set}
 use Rattle.kinds.specs.declared.class.Class.{Ghosts as Classes}
 use Rattle.kinds.specs.declared.cost.Cost.{Ghosts as Costs}
-use Rattle.tables.specs.declared.index.Inserted.TheVariants as inserted
 use Rattle.tables.specs.Indexes.{Inserts, Keeps}
 use Rattle.tables.specs.Queues.{Pushed, Lowered}
 use Rattle.charts.specs.declared.chart.Pair.{Pair}
@@ -24,7 +23,7 @@ module _ {C K : Type 0} (b : Classes C) (c : Costs K) where
   pub record Adds (n : ℕ) (v : Pair C K) (bound : K) (xs : List (Pair C K)) (slots : List ℕ) (ws : List (Open K)) (ys : List (Pair C K)) (slots' : List ℕ) (vs : List (Open K)) : Type 0 where
     pub places : ys ≡ slice_set xs n v
     pub slot : ℕ
-    pub inserts : Inserts ((pair_keys b).hash (pair_of b v)) n slots slots' (inserted.At slot)
+    pub inserts : Inserts ((pair_keys b).hash (pair_of b v)) n slots slots' (Ok slot)
     pub keeps : Keeps (pair_keys b) (pair_of b v) n slots slots'
     pub waits : Pushed (by_bound c.costs) ws (record { bound = bound; cost = v.cost; slot = slot }) vs
 

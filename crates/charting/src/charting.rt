@@ -2,25 +2,24 @@
 ghost use Rattle.std.specs.Prelude.{◌≡◌, ℕ, ◌<◌, ◌≤◌, length, take, slice_index_or};
 ghost use Rattle.charting.specs.Charts.{Fits, VacantFrom, VacantQueue, VacantSlots, Answers, Charts};
 
-use crate::search::search;
+use crate::search::reach;
 use charts::chart::{Chart, Pair};
 use kinds::class::Class;
 use kinds::cost::Cost;
 use kinds::map::Map;
 use kinds::refusal::Refusal;
 use steps::asked::Asked;
-use steps::judging::{answered, has_sizes, head_of, judge, kept_by, vacant_place, vacant_record};
+use steps::judging::{has_sizes, kept_by, vacant_place, vacant_record};
 use steps::open::Open;
 use steps::task::Task;
 use tables::index::clear;
 
-// Writes a value to the places from `from` on.
-fn fill_from<T: Copy>(items: &mut [T], from: usize, value: T)
-    ensures kept { take from items.new ≡ take from items.old }
-    ensures filled { (i : ℕ) (d : T) → from ≤ i → i < length items.new → slice_index_or items.new i d ≡ value }
+// Writes a value to each place.
+fn fill<T: Copy>(items: &mut [T], value: T)
+    ensures { (i : ℕ) (d : T) → i < length items.new → slice_index_or items.new i d ≡ value }
 {
-    for i in from..items.len() {
-        items[i] = value;
+    for item in items.iter_mut() {
+        *item = value;
     }
 }
 
@@ -31,36 +30,34 @@ fn vacate<C: Class, K: Cost>(
     slots: &mut [u16],
     kept: u16,
 )
+    requires { kept ≤ length places.old }
     ensures kept { take kept places.new ≡ take kept places.old }
     ensures places { VacantFrom C.Class K.Cost places.new kept }
     ensures queue { VacantQueue K.Cost queue.new }
     ensures slots { VacantSlots slots.new }
 {
-    fill_from(places, kept as usize, vacant_place());
-    fill_from(queue, 0, vacant_record());
+    fill(&mut places[usize::from(kept)..], vacant_place());
+    fill(queue, vacant_record());
     clear(slots);
 }
 
 // Searches the reach if what is asked is lawful: how many pairs stand in the first places, or what is refused.
 fn answer<M: Map, C: Class, K: Cost>(
-    map: &M,
-    asked: Asked,
+    task: &Task<M>,
     places: &mut [Pair<C, K>],
     queue: &mut [Open<K>],
     slots: &mut [u16],
 ) -> Result<u16, Refusal>
     requires { Fits places.old queue.old slots.old }
-    ensures { Answers (M.Map.site map.now) C.Class K.Cost asked (length places.old) places.new result }
+    ensures { Answers (M.Map.site task.now.map.now) C.Class K.Cost task.now.asked (length places.old) places.new result }
 {
-    if let Some(refusal) = judge(map, asked) {
-        return Err(refusal);
-    }
-    answered(search(&Task { map, asked }, places, queue, slots))
+    task.judge()?;
+    reach(task, places, queue, slots)
 }
 
 // Charts the reach: the number of its pairs, which stand in the first places, each at the cost of its cheapest run and
 // linked to the pair before it on one such run.
-#[tactic(auto, using(crate::proofs::Charts::charts_so))]
+#[tactic(auto, using(crate::proofs::Charts::charts_so, crate::proofs::Charts::kept_within))]
 pub fn chart_reach<M: Map, C: Class, K: Cost>(
     map: &M,
     asked: Asked,
@@ -74,8 +71,9 @@ pub fn chart_reach<M: Map, C: Class, K: Cost>(
     if !has_sizes(places.len(), queue.len(), slots.len()) {
         return Err(Refusal::MemorySize);
     }
-    let answer = answer(map, asked, places, queue, slots);
+    let task = Task { map, asked };
+    let answer = answer(&task, places, queue, slots);
     vacate(places, queue, slots, kept_by(answer));
-    *head = head_of(map, asked, answer);
+    *head = task.head_of(answer);
     answer
 }

@@ -1,188 +1,183 @@
 // The search, pair by pair: the open pair that waits first is settled, and its lanes are followed.
-ghost use Rattle.std.specs.Prelude.{◌≡◌, ℕ, ◌+◌, ◌<◌, length, replicate, MatchBool, MatchOption};
+ghost use Rattle.std.specs.Prelude.{◌≡◌, ℕ, ◌+◌, ◌<◌, length, replicate, MatchBool, MatchResult};
 ghost use Rattle.tables.specs.Queues.{waiting};
-ghost use Rattle.charting.specs.Charts.{Fits, TooLarge};
-ghost use Rattle.charting.specs.Searches.{Sized, Searching, Complete, Follows, Meeting};
+ghost use Rattle.charting.specs.Charts.{Fits};
+ghost use Rattle.charting.specs.Searches.{Sized, Complete, Lent, Rests, AtHand, Comes_by, Meeting, Charted, Refused, TooMany};
 
-use crate::memory::{add, exchange, look_up, lower};
+use crate::memory::Search;
 use charts::chart::Pair;
 use kinds::class::Class;
 use kinds::cost::Cost;
 use kinds::map::Map;
+use kinds::refusal::Refusal;
 use steps::leading::{cost_on, following, has_room, led};
 use steps::open::Open;
 use steps::task::{Task, is_cheaper};
 use tables::index::clear;
 use tables::queue::Queue;
 
-// Takes up the open pair that waits first: it comes to the place `settled`. False: none is open.
-fn take_up<M: Map, C: Class, K: Cost>(
-    task: &Task<M>,
-    places: &mut [Pair<C, K>],
-    queue: &mut Queue<Open<K>>,
-    slots: &mut [u16],
-    settled: u16,
-    found: u16,
-) -> bool
-    requires { Searching (M.Map.site task.now.map.now) C.Class K.Cost task.now.asked places.old queue.old slots.old settled settled 0 found }
-    ensures { MatchBool result (Searching (M.Map.site task.now.map.now) C.Class K.Cost task.now.asked places.new queue.new slots.new settled (settled + 1) 0 found) ((settled ≡ found) × (places.new ≡ places.old)) }
-{
-    let Some(open) = queue.pop() else {
-        return false;
-    };
-    let slot = open.slot as usize;
-    let place = slots[slot] - 1;
-    exchange(places, slots, found, place, slot, settled);
-    true
-}
-
-// Follows the lane with this number from the pair at the place `hand`: how many pairs are found then.
-// None: the reach has more pairs than places, or a class that is not held.
-fn follow<M: Map, C: Class, K: Cost>(
-    task: &Task<M>,
-    places: &mut [Pair<C, K>],
-    queue: &mut Queue<Open<K>>,
-    slots: &mut [u16],
-    hand: u16,
-    number: u16,
-    found: u16,
-) -> Option<u16>
-    requires { Searching (M.Map.site task.now.map.now) C.Class K.Cost task.now.asked places.old queue.old slots.old hand (hand + 1) number found }
-    ensures { MatchOption result (TooLarge (M.Map.site task.now.map.now) C.Class K.Cost task.now.asked (length places.old)) (Searching (M.Map.site task.now.map.now) C.Class K.Cost task.now.asked places.new queue.new slots.new hand (hand + 1) (number + 1)) }
-{
-    let from = places[hand as usize];
-    let Some(lane) = task.map.lane(from.point, number) else {
-        return Some(found);
-    };
-    let cost = cost_on(&from, lane);
-    if !task.is_within(lane.to, cost) {
-        return Some(found);
+impl<M: Map, C: Class, K: Cost> Search<'_, '_, '_, M, C, K> {
+    // Finds the reel with the unit, if it is within the cable.
+    fn begin(&mut self)
+        requires here { self.old.task.now.asked.reel < (M.Map.site self.old.task.now.map.now).points }
+        requires sized { Sized self.old.places.now self.old.queue.now self.old.slots.now }
+        requires some { 0 < length self.old.places.now }
+        requires none { (self.old.found ≡ 0) × (self.old.settled ≡ 0) }
+        requires idle { length (waiting self.old.queue.now) ≡ 0 }
+        requires vacant { self.old.slots.now ≡ replicate (length self.old.slots.now) 0 }
+        ensures lent { Lent self.old self.new }
+        ensures begun { Rests M.Map.site C.Class K.Cost self.new }
+    {
+        let reel = self.task.asked.reel;
+        let zero = K::zero();
+        if !self.task.is_within(reel, zero) {
+            return;
+        }
+        let pair = Pair {
+            point: reel,
+            class: C::unit(),
+            cost: zero,
+            link: None,
+        };
+        let bound = self.task.bound_at(reel, zero);
+        self.add(pair, bound);
     }
-    let Some(pair) = led(&from, lane, hand, cost) else {
-        return None;
-    };
-    meet(task, places, queue, slots, found, pair)
-}
 
-// Enters a pair that a lane leads to: in a new place, or in its old one if it is cheaper now.
-fn meet<M: Map, C: Class, K: Cost>(
-    task: &Task<M>,
-    places: &mut [Pair<C, K>],
-    queue: &mut Queue<Open<K>>,
-    slots: &mut [u16],
-    found: u16,
-    pair: Pair<C, K>,
-) -> Option<u16>
-    requires { Meeting (M.Map.site task.now.map.now) C.Class K.Cost task.now.asked places.old queue.old slots.old found pair }
-    ensures { MatchOption result (TooLarge (M.Map.site task.now.map.now) C.Class K.Cost task.now.asked (length places.old)) (λ n. (s i : ℕ) → Follows (M.Map.site task.now.map.now) C.Class K.Cost task.now.asked places.old queue.old slots.old s i found pair → Searching (M.Map.site task.now.map.now) C.Class K.Cost task.now.asked places.new queue.new slots.new s (s + 1) (i + 1) n) }
-{
-    let bound = task.bound_at(pair.point, pair.cost);
-    match look_up(places, slots, found, pair.point, pair.class) {
-        Some(at) => {
-            let old = places[at.place as usize];
-            if is_cheaper(&pair.cost, &old.cost) {
-                lower(places, queue, at.place, at.slot as u16, pair, bound);
+    // Takes up the open pair that waits first: it comes to the place after the settled ones. False: none is open.
+    fn take_up(&mut self) -> bool
+        requires { Rests M.Map.site C.Class K.Cost self.old }
+        ensures lent { Lent self.old self.new }
+        ensures settled { self.new.settled ≡ self.old.settled }
+        ensures taken { MatchBool result (AtHand M.Map.site C.Class K.Cost self.new 0) (Charted M.Map.site C.Class K.Cost self.new) }
+    {
+        let Some(open) = self.queue.pop() else {
+            return false;
+        };
+        let slot = usize::from(open.slot);
+        let place = self.slots[slot] - 1;
+        let settled = self.settled;
+        self.exchange(place, slot, settled);
+        true
+    }
+
+    // Enters a pair that a lane leads to: in a new place, or in its old one if it is cheaper now.
+    // Refused: no place is left.
+    fn meet(&mut self, pair: Pair<C, K>) -> Result<(), Refusal>
+        requires { Meeting M.Map.site C.Class K.Cost self.old pair }
+        ensures lent { Lent self.old self.new }
+        ensures settled { self.new.settled ≡ self.old.settled }
+        ensures met { MatchResult result (λ _. (i : ℕ) → Comes_by M.Map.site C.Class K.Cost self.old i pair → AtHand M.Map.site C.Class K.Cost self.new (i + 1)) (Refused M.Map.site C.Class K.Cost self.old) }
+    {
+        let bound = self.task.bound_at(pair.point, pair.cost);
+        match self.look_up(pair.point, pair.class) {
+            Some(at) => {
+                let old = self.places[usize::from(at.place)];
+                if is_cheaper(&pair.cost, &old.cost) {
+                    self.lower(at.place, at.slot as u16, pair, bound);
+                }
+                Ok(())
             }
-            Some(found)
+            None if has_room(self.found, self.places.len()) => {
+                self.add(pair, bound);
+                Ok(())
+            }
+            None => Err(Refusal::ReachTooLarge),
         }
-        None if has_room(found, places.len()) => {
-            add(places, queue, slots, found, pair, bound);
-            Some(found + 1)
+    }
+
+    // Follows the lane with this number from the pair at hand.
+    // Refused: the reach has more pairs than places, or a class that is not held.
+    fn follow(&mut self, number: u16) -> Result<(), Refusal>
+        requires { AtHand M.Map.site C.Class K.Cost self.old number }
+        ensures lent { Lent self.old self.new }
+        ensures settled { self.new.settled ≡ self.old.settled }
+        ensures followed { MatchResult result (λ _. AtHand M.Map.site C.Class K.Cost self.new (number + 1)) (Refused M.Map.site C.Class K.Cost self.old) }
+    {
+        let from = self.places[usize::from(self.settled)];
+        let Some(lane) = self.task.map.lane(from.point, number) else {
+            return Ok(());
+        };
+        let cost = cost_on(&from, lane);
+        if !self.task.is_within(lane.to, cost) {
+            return Ok(());
         }
-        None => None,
+        let Some(pair) = led(&from, lane, self.settled, cost) else {
+            return Err(Refusal::ReachTooLarge);
+        };
+        self.meet(pair)
+    }
+
+    // Follows all lanes from the pair at hand, which is settled then. Refused as `follow`.
+    fn expand(&mut self) -> Result<(), Refusal>
+        requires { AtHand M.Map.site C.Class K.Cost self.old 0 }
+        ensures lent { Lent self.old self.new }
+        ensures expanded { MatchResult result (λ _. Rests M.Map.site C.Class K.Cost self.new × (self.new.settled ≡ self.old.settled + 1)) (Refused M.Map.site C.Class K.Cost self.old) }
+    {
+        let mut from = 0;
+        while let Some(number) = self
+            .task
+            .map
+            .next_lane(self.places[usize::from(self.settled)].point, from)
+        {
+            self.follow(number)?;
+            from = following(number);
+        }
+        self.settled += 1;
+        Ok(())
+    }
+
+    // Settles open pairs until none is left. Refused as `follow`.
+    fn finish(&mut self) -> Result<(), Refusal>
+        requires { Rests M.Map.site C.Class K.Cost self.old }
+        ensures lent { Lent self.old self.new }
+        ensures finished { MatchResult result (λ _. Charted M.Map.site C.Class K.Cost self.new) (Refused M.Map.site C.Class K.Cost self.old) }
+    {
+        while self.take_up() {
+            self.expand()?;
+        }
+        Ok(())
     }
 }
 
-// Follows all lanes from the pair at the place `hand`: how many pairs are found then, or none as `follow`.
-fn expand<M: Map, C: Class, K: Cost>(
-    task: &Task<M>,
-    places: &mut [Pair<C, K>],
-    queue: &mut Queue<Open<K>>,
-    slots: &mut [u16],
-    hand: u16,
-    found: u16,
-) -> Option<u16>
-    requires { Searching (M.Map.site task.now.map.now) C.Class K.Cost task.now.asked places.old queue.old slots.old hand (hand + 1) 0 found }
-    ensures { MatchOption result (TooLarge (M.Map.site task.now.map.now) C.Class K.Cost task.now.asked (length places.old)) (Searching (M.Map.site task.now.map.now) C.Class K.Cost task.now.asked places.new queue.new slots.new (hand + 1) (hand + 1) 0) }
-{
-    let mut found = found;
-    let mut from = 0;
-    while let Some(number) = task.map.next_lane(places[hand as usize].point, from) {
-        match follow(task, places, queue, slots, hand, number, found) {
-            Some(more) => found = more,
-            None => return None,
-        }
-        from = following(number);
-    }
-    Some(found)
-}
-
-// Settles open pairs until none is left: how many pairs the reach has, or none as `follow`.
-fn finish<M: Map, C: Class, K: Cost>(
-    task: &Task<M>,
-    places: &mut [Pair<C, K>],
-    queue: &mut Queue<Open<K>>,
-    slots: &mut [u16],
-    found: u16,
-) -> Option<u16>
-    requires { Searching (M.Map.site task.now.map.now) C.Class K.Cost task.now.asked places.old queue.old slots.old 0 0 0 found }
-    ensures { MatchOption result (TooLarge (M.Map.site task.now.map.now) C.Class K.Cost task.now.asked (length places.old)) (Complete (M.Map.site task.now.map.now) C.Class K.Cost task.now.asked places.new) }
-{
-    let mut found = found;
-    let mut settled = 0;
-    while take_up(task, places, queue, slots, settled, found) {
-        match expand(task, places, queue, slots, settled, found) {
-            Some(more) => found = more,
-            None => return None,
-        }
-        settled += 1;
-    }
-    Some(found)
-}
-
-// Finds the reel with the unit, if it is within the cable: how many pairs are found.
-fn begin<M: Map, C: Class, K: Cost>(
-    task: &Task<M>,
-    places: &mut [Pair<C, K>],
-    queue: &mut Queue<Open<K>>,
-    slots: &mut [u16],
-) -> u16
+// Searches the whole reach with an empty queue and vacant slots.
+fn search_in<'a, 'm, 'q, M: Map, C: Class, K: Cost>(
+    task: &'a Task<'m, M>,
+    places: &'a mut [Pair<C, K>],
+    queue: &'a mut Queue<'q, Open<K>>,
+    slots: &'a mut [u16],
+) -> Result<u16, Refusal>
     requires here { task.now.asked.reel < (M.Map.site task.now.map.now).points }
     requires sized { Sized places.old queue.old slots.old }
     requires some { 0 < length places.old }
     requires idle { length (waiting queue.old) ≡ 0 }
     requires vacant { slots.old ≡ replicate (length slots.old) 0 }
-    ensures { Searching (M.Map.site task.now.map.now) C.Class K.Cost task.now.asked places.new queue.new slots.new 0 0 0 result }
+    ensures { MatchResult result (Complete (M.Map.site task.now.map.now) C.Class K.Cost task.now.asked places.new) (TooMany (M.Map.site task.now.map.now) C.Class K.Cost task.now.asked (length places.old)) }
 {
-    let reel = task.asked.reel;
-    let zero = K::zero();
-    if !task.is_within(reel, zero) {
-        return 0;
-    }
-    let pair = Pair {
-        point: reel,
-        class: C::unit(),
-        cost: zero,
-        link: None,
+    let mut search = Search {
+        task,
+        places,
+        queue,
+        slots,
+        found: 0,
+        settled: 0,
     };
-    let bound = task.bound_at(reel, zero);
-    add(places, queue, slots, 0, pair, bound);
-    1
+    search.begin();
+    search.finish()?;
+    Ok(search.found)
 }
 
-// Searches the whole reach: how many pairs it has, which stand in the first places. None as `follow`.
-pub(crate) fn search<M: Map, C: Class, K: Cost>(
+// Searches the whole reach: how many pairs it has, which stand in the first places.
+// Refused: it has more pairs than places, or a class that is not held.
+pub(crate) fn reach<M: Map, C: Class, K: Cost>(
     task: &Task<M>,
     places: &mut [Pair<C, K>],
     queue: &mut [Open<K>],
     slots: &mut [u16],
-) -> Option<u16>
+) -> Result<u16, Refusal>
     requires here { task.now.asked.reel < (M.Map.site task.now.map.now).points }
     requires fits { Fits places.old queue.old slots.old }
-    ensures { MatchOption result (TooLarge (M.Map.site task.now.map.now) C.Class K.Cost task.now.asked (length places.old)) (Complete (M.Map.site task.now.map.now) C.Class K.Cost task.now.asked places.new) }
+    ensures { MatchResult result (Complete (M.Map.site task.now.map.now) C.Class K.Cost task.now.asked places.new) (TooMany (M.Map.site task.now.map.now) C.Class K.Cost task.now.asked (length places.old)) }
 {
     clear(slots);
-    let mut waiting = Queue::empty(queue);
-    let found = begin(task, places, &mut waiting, slots);
-    finish(task, places, &mut waiting, slots, found)
+    search_in(task, places, &mut Queue::empty(queue), slots)
 }

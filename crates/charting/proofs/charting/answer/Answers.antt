@@ -1,22 +1,24 @@
-use Rattle.std.proofs.Common.{◌≡◌, ℕ, length, Result, sym, subst, arith}
-use Rattle.kinds.specs.declared.refusal.Refusal.{Refusal}
-use Rattle.charting.specs.Charts.{Answers}
+use Rattle.std.proofs.Common.{◌≡◌, length, Ok, Err, arith}
+use Rattle.std.proofs.lemmas.Result.{err_from_is_err_and}
 use Rattle.charting.proofs.Charts.{judged_lawful, judged_wrong, reel_here, search_answers}
 use Rattle.charting.proofs.charting.answer.Goals as goal
 
-pub returns-in-Some : goal.returns-in-Some
-returns-in-Some g c =
-    judged_wrong (g.M.Map.site c.args.map.now) g.C.Class g.K.Cost c.args.asked (length c.args.places.now) c.args.places.now c.judge.result c.in-Some.refusal c.judge.ensures c.in-Some.is
+pub returns-in_err-judge : goal.returns-in_err-judge
+returns-in_err-judge g c =
+    let p = err_from_is_err_and c.from_residual.result c.from_residual.ensures.1 in
+    rw (p.1, p.2)
+    (judged_wrong (g.M.Map.site c.args.task.now.map.now) g.C.Class g.K.Cost c.args.task.now.asked (length c.args.places.now) c.args.places.now (Err c.in_err-judge.field-0.0) c.in_err-judge.ensures)
 
-pub search-requires : goal.search-requires
-search-requires g c = record {
-  here = reel_here (g.M.Map.site c.args.map.now) c.args.asked (judged_lawful (g.M.Map.site c.args.map.now) c.args.asked c.judge.result c.judge.ensures c.in_default.is).0;
-  fits = c.requires;
-}
+pub reach-requires : goal.reach-requires
+reach-requires g c =
+    let m = g.M.Map.site c.args.task.now.map.now in record {
+      here = reel_here m c.args.task.now.asked (judged_lawful m c.args.task.now.asked (Ok c.in_ok-judge.field-0) c.in_ok-judge.ensures).0;
+      fits = c.requires;
+    }
 
 pub returns : goal.returns
 returns g c =
-    let (np, le) = judged_lawful (g.M.Map.site c.args.map.now) c.args.asked c.judge.result c.judge.ensures c.in_default.is in
-    let same : length c.search.new.places ≡ length c.args.places.now = omega (arith, c.search.auto.places) in
-    subst (λ (r : Result ℕ Refusal). Answers (g.M.Map.site c.args.map.now) g.C.Class g.K.Cost c.args.asked (length c.args.places.now) c.search.new.places r) (sym c.answered.ensures)
-    (search_answers (g.M.Map.site c.args.map.now) g.C.Class g.K.Cost c.args.asked (length c.args.places.now) c.search.new.places c.search.result np le same c.search.ensures)
+    let m = g.M.Map.site c.args.task.now.map.now in
+    let (np, le) = judged_lawful m c.args.task.now.asked (Ok c.in_ok-judge.field-0) c.in_ok-judge.ensures in
+    let same : length c.reach.new.places ≡ length c.args.places.now = omega (arith, c.reach.auto.places) in
+    search_answers m g.C.Class g.K.Cost c.args.task.now.asked (length c.args.places.now) c.reach.new.places c.reach.result np le same c.reach.ensures

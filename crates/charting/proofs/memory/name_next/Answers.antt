@@ -1,11 +1,9 @@
-use Rattle.std.proofs.Common.{◌+◌, take, arith}
-use Rattle.steps.specs.Keys.{pair_keys, pair_at, pair_of}
-use Rattle.tables.proofs.Crowding.{not_full_from_few}
-use Rattle.charting.proofs.Indexing.{keys_few}
+use Rattle.steps.specs.Keys.{pair_keys, pair_of}
+use Rattle.charting.proofs.Indexing.{inserts_so}
 use Rattle.charting.proofs.memory.name_next.Goals as goal
 
-pub returns-in-Full : goal.returns-in-Full
-returns-in-Full g c =
-    absurd (not_full_from_few (pair_keys g.C.Class) (pair_at g.C.Class (take (c.args.found + 1) c.args.places.now)) c.args.slots.now c.requires.indexed (c.args.found + 1)
-    (keys_few g.C.Class c.args.places.now (c.args.found + 1) (omega (arith, c.requires.room))) (omega (arith, c.requires.room, c.requires.slotted))
-    ((pair_keys g.C.Class).hash (pair_of g.C.Class c.args.pair)) c.args.found c.insert.new.slots c.in-Full.ensures.placed)
+pub returns-clause-inserts : goal.returns-clause-inserts
+returns-clause-inserts g c =
+    rw c.unwrap_or.ensures
+    (inserts_so g.C.Class c.args.places.now c.args.slots.now c.insert.new.slots c.args.found ((pair_keys g.C.Class).hash (pair_of g.C.Class c.args.pair)) c.insert.result
+    c.requires.few c.requires.room c.requires.slotted c.requires.indexed c.insert.ensures.placed)

@@ -1,0 +1,40 @@
+use Rattle.std.proofs.Common.{◌+◌, ◌<◌, ap, ◌∙◌, arith, rules}
+use Rattle.charting.proofs.Elements.{stands_got}
+use Rattle.charting.proofs.Searches.{lent_on, hand_within, searching_to, searching_past, next_low}
+use Rattle.charting.proofs.memory.Search.expand.Goals as goal
+
+pub follow-requires : goal.follow-requires
+follow-requires g c =
+    let s = c.loop-number.self in
+    let map = s.task.now.map.now in
+    let h = c.loop-number.invariant.hand in
+    let at = stands_got s.places.now s.settled c.from.result c.index-self-from.result (hand_within (g.met.M.Map.lanes map) (g.met.M.Map.estimates map) h) c.from.ensures in
+    searching_to (g.met.M.Map.lanes map) (g.met.M.Map.estimates map) h at c.in-Some.ensures
+
+pub loop-number-smaller : goal.loop-number-smaller
+loop-number-smaller g c =
+    let low = next_low (g.met.M.Map.lanes c.loop-number.self.task.now.map.now) c.in-Some.ensures in
+    let next = c.following-from.ensures.next (omega (arith, low.2)) in
+    rw c.follow.ensures.lent.task (omega (arith, low.0, low.1, next))
+
+pub loop-number-preserved : goal.loop-number-preserved
+loop-number-preserved g c =
+    let low = next_low (g.met.M.Map.lanes c.loop-number.self.task.now.map.now) c.in-Some.ensures in record {
+      hand = rw (c.following-from.ensures.next (omega (arith, low.2))) c.in_ok-follow.ensures.followed;
+      lent = lent_on c.loop-number.invariant.lent c.follow.ensures.lent;
+      settled = c.follow.ensures.settled ∙ c.loop-number.invariant.settled;
+    }
+
+pub returns-clause-expanded : goal.returns-clause-expanded
+returns-clause-expanded g c =
+    let s = c.loop-number.self in
+    let map = s.task.now.map.now in
+    let h = c.loop-number.invariant.hand in
+    let at = stands_got s.places.now s.settled c.from.result c.index-self-from.result (hand_within (g.met.M.Map.lanes map) (g.met.M.Map.estimates map) h) c.from.ensures in
+    (searching_past (g.met.M.Map.lanes map) (g.met.M.Map.estimates map) h at c.in_default.ensures, ap (λ a. a + 1) c.loop-number.invariant.settled)
+
+pub overflow_add-self : goal.overflow_add-self
+overflow_add-self g c =
+    let h = c.loop-number.invariant.hand in
+    let low : c.loop-number.self.settled < 4096 = omega (arith, h.progress.found, h.progress.room, h.sized.few) in
+    search rules

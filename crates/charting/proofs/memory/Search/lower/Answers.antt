@@ -1,0 +1,19 @@
+use Rattle.tables.specs.Queues.{waiting}
+use Rattle.steps.specs.Opens.{by_bound}
+use Rattle.charting.proofs.Queues.{lowers_so}
+use Rattle.charting.proofs.memory.Search.lower.Goals as goal
+
+pub returns-in-Some-clause-lowers : goal.returns-in-Some-clause-lowers
+returns-in-Some-clause-lowers g c =
+    let (old, lt, at, slot) = c.in-Some.ensures in
+    let s = c.args.self.now in record {
+      at = c.in-Some.waits;
+      old = old;
+      within = lt;
+      stands = at;
+      slot = slot;
+      lowered =
+          lowers_so (by_bound g.K.Cost.costs) (waiting s.queue.now) (waiting c.lower.new.self) c.in-Some.waits
+          (record { bound = c.args.bound; cost = c.args.pair.cost; slot = c.args.slot }) old c.lower.result lt at
+          (c.requires.less old (c.in-Some.waits, lt, at) slot) c.lower.ensures.answer c.lower.ensures.lowered;
+    }
