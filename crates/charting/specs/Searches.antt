@@ -15,7 +15,7 @@
 --     AtHand .. x i                so they are, and the pair after them is settled too and its lanes below the number i followed
 --     Comes_by .. x i v            v comes from the pair at hand by the lane number i, whose lanes below i are followed
 --     Meeting .. x v               v comes from it by some lane
---     Charted .. x                 the found pairs are a finished chart, and nothing was to be refused
+--     Ended .. x                 the found pairs are a finished chart, and nothing was to be refused
 --     Refused .. x e               e says that the reach is too large, and so it is for the places of x
 use Rattle.std.specs.Prelude.{◌≡◌, ℕ, ◌+◌, ◌*◌, ◌≤◌, List, length, take, Some, Option}
 use Rattle.kinds.specs.declared.refusal.Refusal.{Refusal}
@@ -107,8 +107,8 @@ module _ {M C K : Type 0} where
     abbrev pub Meeting : Pair C K → Type 0
     Meeting v = (i : ℕ) × Comes_by i v
 
-    abbrev pub Charted : Type 0
-    Charted = Complete (site x.task.now.map.now) b c x.task.now.asked x.places.now x.found
+    abbrev pub Ended : Type 0
+    Ended = Complete (site x.task.now.map.now) b c x.task.now.asked x.places.now x.found
 
     abbrev pub Refused : Refusal → Type 0
     Refused e = TooMany (site x.task.now.map.now) b c x.task.now.asked (length x.places.now) e

@@ -1,10 +1,9 @@
 // A search and its memory: the places, the queue of open pairs and the index slots.
-ghost use Rattle.std.specs.Prelude.{◌≡◌, ℕ, ◌+◌, ◌*◌, ◌<◌, ◌≤◌, length, take, MatchBool, MatchOption, Ok, ◌≢◌, slice_set};
+ghost use Rattle.std.specs.Prelude.{◌≡◌, ℕ, ◌+◌, ◌*◌, ◌<◌, ◌≤◌, length, take, Ok, ◌≢◌, slice_set, nat_eq, position};
 ghost use Rattle.std.specs.List.{ContainsAt as Has, AllByRecursion};
 ghost use Rattle.tables.specs.Indexes.{Names, Indexed, Exact, Inserts, Keeps};
 ghost use Rattle.tables.specs.Orders.{AtMost};
 ghost use Rattle.tables.specs.Queues.{waiting};
-ghost use Rattle.charts.specs.Charts.{Stands};
 ghost use Rattle.steps.specs.Opens.{by_bound};
 ghost use Rattle.charting.specs.Searches.{Sized, Lent, Named, keys_at};
 ghost use Rattle.charting.specs.Steps.{Swaps, Adds, Lowers};
@@ -158,24 +157,9 @@ fn name_next<C: Class, K: Cost>(
     insert(slots, &pairs, &key, found).unwrap_or(0)
 }
 
-// Whether the record at a place of the queue has this slot.
-fn has_slot<K: Cost>(queue: &Queue<Open<K>>, place: usize, slot: u16) -> bool
-    ensures { MatchBool result ((w : Open K) × (place < length (waiting queue.now)) × Stands (waiting queue.now) place w × (w.slot ≡ slot)) ((w : Open K) → place < length (waiting queue.now) → Stands (waiting queue.now) place w → w.slot ≢ slot) }
-{
-    match queue.peek_at(place) {
-        Some(open) => open.slot == slot,
-        None => false,
-    }
-}
-
 // Where in the queue the record with this slot waits.
 fn waiting_at<K: Cost>(queue: &Queue<Open<K>>, slot: u16) -> Option<usize>
-    ensures { MatchOption result (AllByRecursion (λ w. w.slot ≢ slot) (waiting queue.now)) (λ p. (w : Open K) × (p < length (waiting queue.now)) × Stands (waiting queue.now) p w × (w.slot ≡ slot)) }
+    ensures { result ≡ position (λ w. nat_eq w.slot slot) (waiting queue.now) }
 {
-    for place in 0..queue.len() {
-        if has_slot(queue, place, slot) {
-            return Some(place);
-        }
-    }
-    None
+    queue.as_slice().iter().position(|open| open.slot == slot)
 }

@@ -2,7 +2,7 @@
 ghost use Rattle.std.specs.Prelude.{◌≡◌, ℕ, ◌+◌, ◌<◌, length, replicate, MatchBool, MatchResult};
 ghost use Rattle.tables.specs.Queues.{waiting};
 ghost use Rattle.charting.specs.Charts.{Fits};
-ghost use Rattle.charting.specs.Searches.{Sized, Complete, Lent, Rests, AtHand, Comes_by, Meeting, Charted, Refused, TooMany};
+ghost use Rattle.charting.specs.Searches.{Sized, Complete, Lent, Rests, AtHand, Comes_by, Meeting, Ended, Refused, TooMany};
 
 use crate::memory::Search;
 use charts::chart::Pair;
@@ -48,7 +48,7 @@ impl<M: Map, C: Class, K: Cost> Search<'_, '_, '_, M, C, K> {
         requires { Rests M.Map.site C.Class K.Cost self.old }
         ensures lent { Lent self.old self.new }
         ensures settled { self.new.settled ≡ self.old.settled }
-        ensures taken { MatchBool result (AtHand M.Map.site C.Class K.Cost self.new 0) (Charted M.Map.site C.Class K.Cost self.new) }
+        ensures taken { MatchBool result (AtHand M.Map.site C.Class K.Cost self.new 0) (Ended M.Map.site C.Class K.Cost self.new) }
     {
         let Some(open) = self.queue.pop() else {
             return false;
@@ -130,7 +130,7 @@ impl<M: Map, C: Class, K: Cost> Search<'_, '_, '_, M, C, K> {
     fn finish(&mut self) -> Result<(), Refusal>
         requires { Rests M.Map.site C.Class K.Cost self.old }
         ensures lent { Lent self.old self.new }
-        ensures finished { MatchResult result (λ _. Charted M.Map.site C.Class K.Cost self.new) (Refused M.Map.site C.Class K.Cost self.old) }
+        ensures finished { MatchResult result (λ _. Ended M.Map.site C.Class K.Cost self.new) (Refused M.Map.site C.Class K.Cost self.old) }
     {
         while self.take_up() {
             self.expand()?;
