@@ -84,11 +84,15 @@ fn read_request(heap: Global, from: &str, words: &[String]) -> anyhow::Result<Re
     while let Some(word) = words.next() {
         match word.as_str() {
             "--class" => {
-                let name = words.next().context("--class wants words or sides after it")?;
+                let name = words
+                    .next()
+                    .context("--class wants words or sides after it")?;
                 request.classes = name.parse::<Classes>()?;
             }
             "--cost" => {
-                let name = words.next().context("--cost wants length or slope after it")?;
+                let name = words
+                    .next()
+                    .context("--cost wants length or slope after it")?;
                 request.costs = name.parse::<Costs>()?;
             }
             option if option.starts_with("-") => {
@@ -126,15 +130,14 @@ fn add_lane<C: Display, K: Display>(
 fn add_lanes<M: Map, C: Class + Display, K: Cost + Display>(
     out: &mut String,
     map: &M,
-    from: u16,
-    numbers: &[u16],
+    request: &Request,
 ) -> anyhow::Result<u16> {
     let mut along: Along<C, K> = Along {
-        end: from,
+        end: request.from,
         class: C::unit(),
         cost: K::zero(),
     };
-    for number in numbers {
+    for number in request.lanes.iter() {
         let Some(lane) = map.lane(along.end, *number) else {
             return Ok(along.end);
         };
@@ -152,7 +155,7 @@ fn add_sum<C: Display, K: Display>(
     out: &mut String,
     pricing: &Result<Along<C, K>, Unpriced>,
     reached: u16,
-    numbers: &[u16],
+    request: &Request,
 ) -> anyhow::Result<()> {
     match pricing {
         Ok(along) => {
@@ -163,7 +166,7 @@ fn add_sum<C: Display, K: Display>(
         }
         Err(Unpriced::NoPoint) => writeln!(out, "{reached} is no point of the map")?,
         Err(Unpriced::LaneMissing(place)) => {
-            let number = numbers.get(*place).copied().unwrap_or(0);
+            let number = request.lanes.get(*place).copied().unwrap_or(0);
             writeln!(out, "lane {number} is missing at point {reached}")?;
         }
         Err(Unpriced::ClassNotHeld(count)) => {
@@ -177,25 +180,23 @@ fn add_sum<C: Display, K: Display>(
 fn lines<M: Map, C: Class + Display, K: Cost + Display>(
     heap: Global,
     map: &M,
-    from: u16,
-    numbers: &[u16],
+    request: &Request,
 ) -> anyhow::Result<String> {
     let mut out = String::new(heap);
-    let whole: Result<Along<C, K>, Unpriced> = pricing::price(map, from, numbers);
-    let reached = add_lanes::<M, C, K>(&mut out, map, from, numbers)?;
-    add_sum(&mut out, &whole, reached, numbers)?;
+    let whole: Result<Along<C, K>, Unpriced> = pricing::price(map, request.from, &request.lanes);
+    let reached = add_lanes::<M, C, K>(&mut out, map, request)?;
+    add_sum(&mut out, &whole, reached, request)?;
     Ok(out)
 }
 
 // The lines of a run on a map, in the kinds asked for.
 fn priced<M: Map>(heap: Global, map: &M, request: &Request) -> anyhow::Result<String> {
-    let from = request.from;
-    let lanes = request.lanes.as_slice();
+    // the kinds are types, which only a match can pick by values
     match (request.classes, request.costs) {
-        (Classes::Words, Costs::Length) => lines::<M, Word, Length>(heap, map, from, lanes),
-        (Classes::Words, Costs::Slope) => lines::<M, Word, Slope>(heap, map, from, lanes),
-        (Classes::Sides, Costs::Length) => lines::<M, Sides, Length>(heap, map, from, lanes),
-        (Classes::Sides, Costs::Slope) => lines::<M, Sides, Slope>(heap, map, from, lanes),
+        (Classes::Words, Costs::Length) => lines::<M, Word, Length>(heap, map, request),
+        (Classes::Words, Costs::Slope) => lines::<M, Word, Slope>(heap, map, request),
+        (Classes::Sides, Costs::Length) => lines::<M, Sides, Length>(heap, map, request),
+        (Classes::Sides, Costs::Slope) => lines::<M, Sides, Slope>(heap, map, request),
     }
 }
 

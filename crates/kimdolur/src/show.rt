@@ -4,86 +4,89 @@ use crate::plan_file::Held;
 use kinds::lane::Lane;
 use kinds::map::Map;
 use plans::grid::BLOCKED;
-use plans::plan::{Grid, Plan, Road};
+use plans::plan::{Grid, Plan, Post, Road};
 use plans::road::RoadMap;
 use std::alloc::Global;
+use std::fmt;
+use std::iter::Take;
+use std::slice::Iter;
 
-// Whether a byte of the memory is other than 0.
-fn is_set(memory: &[u8], at: usize) -> bool {
-    memory.get(at).copied().unwrap_or(0) != 0
+// A grid as it is drawn, north on top.
+#[derive(Clone, Copy)]
+struct Drawing<'a> {
+    grid: Grid,
+    memory: &'a [u8],
 }
 
-// How a point of a grid is drawn.
-fn mark(grid: &Grid, memory: &[u8], column: u8, row: u8) -> char {
-    let point = usize::from(row) * usize::from(grid.width) + usize::from(column);
-    if is_set(memory, BLOCKED + point) {
-        '#'
-    } else if is_set(memory, point) {
-        '+'
-    } else {
-        '.'
+impl Drawing<'_> {
+    // Whether a byte of the memory is other than 0.
+    fn is_set(&self, at: usize) -> bool {
+        self.memory.get(at).is_some_and(|byte| *byte != 0)
     }
-}
 
-// Whether a post stands in the square with this south-west corner.
-fn has_post(grid: &Grid, column: u8, row: u8) -> bool {
-    grid.posts
-        .iter()
-        .take(usize::from(grid.count))
-        .any(|post| post.column == column && post.row == row)
-}
-
-// Adds the drawing of one row of points.
-fn add_points(out: &mut String, grid: &Grid, memory: &[u8], row: u8) -> anyhow::Result<()> {
-    for column in 0..grid.width {
-        if column > 0 {
-            out.push(' ')?;
-        }
-        out.push(mark(grid, memory, column, row))?;
-    }
-    out.push('\n')?;
-    Ok(())
-}
-
-// Adds the drawing of the squares north of one row of points.
-fn add_squares(out: &mut String, grid: &Grid, row: u8) -> anyhow::Result<()> {
-    for column in 0..grid.width {
-        if column > 0 {
-            out.push(if has_post(grid, column - 1, row) {
-                'o'
-            } else {
-                ' '
-            })?;
-        }
-        out.push(' ')?;
-    }
-    out.push('\n')?;
-    Ok(())
-}
-
-// Adds the drawing of a grid, north on top.
-fn add_drawing(out: &mut String, grid: &Grid, memory: &[u8]) -> anyhow::Result<()> {
-    for row in (0..grid.height).rev() {
-        add_points(out, grid, memory, row)?;
-        if row > 0 {
-            add_squares(out, grid, row - 1)?;
+    // How a point is drawn.
+    fn mark(&self, column: u8, row: u8) -> char {
+        let point = usize::from(row) * usize::from(self.grid.width) + usize::from(column);
+        if self.is_set(BLOCKED + point) {
+            '#'
+        } else if self.is_set(point) {
+            '+'
+        } else {
+            '.'
         }
     }
-    Ok(())
-}
 
-// Adds a line for each post, by the number of its ray.
-fn add_posts(out: &mut String, grid: &Grid) -> anyhow::Result<()> {
-    for (ray, post) in (1..8u8).zip(grid.posts.iter().take(usize::from(grid.count))) {
-        let column = post.column;
-        let row = post.row;
-        writeln!(out, "ray {ray}: post at column {column}, row {row}")?;
+    // The posts that count.
+    fn posts(&self) -> Take<Iter<'_, Post>> {
+        self.grid.posts.iter().take(usize::from(self.grid.count))
     }
-    Ok(())
+
+    // How the square is drawn that has this point in its south-west corner.
+    fn square(&self, column: u8, row: u8) -> char {
+        if self.posts().any(|post| *post == Post { column, row }) {
+            'o'
+        } else {
+            ' '
+        }
+    }
+
+    // Writes one row of points.
+    fn write_points<W: fmt::Write>(&self, f: &mut fmt::Formatter<W>, row: u8) -> fmt::Result {
+        for column in 0..self.grid.width {
+            if column > 0 {
+                f.write_char(' ')?;
+            }
+            f.write_char(self.mark(column, row))?;
+        }
+        f.write_char('\n')
+    }
+
+    // Writes the squares north of one row of points.
+    fn write_squares<W: fmt::Write>(&self, f: &mut fmt::Formatter<W>, row: u8) -> fmt::Result {
+        for column in 0..self.grid.width {
+            if column > 0 {
+                f.write_char(self.square(column - 1, row))?;
+            }
+            f.write_char(' ')?;
+        }
+        f.write_char('\n')
+    }
 }
 
-// What a grid holds.
-fn show_grid(heap: Global, grid: &Grid, memory: &[u8]) -> anyhow::Result<String> {
+impl fmt::Display for Drawing<'_> {
+    fn fmt<W: fmt::Write>(&self, f: &mut fmt::Formatter<W>) -> fmt::Result {
+        for row in (0..self.grid.height).rev() {
+            self.write_points(f, row)?;
+            if row > 0 {
+                self.write_squares(f, row - 1)?;
+            }
+        }
+        Ok(())
+    }
+}
+
+// What a grid holds: its sizes, a line for each post, by the number of its ray, and its drawing.
+fn show_grid(heap: Global, grid: Grid, memory: &[u8]) -> anyhow::Result<String> {
     let mut out = String::new(heap);
     let width = grid.width;
     let height = grid.height;
@@ -94,8 +97,13 @@ fn show_grid(heap: Global, grid: &Grid, memory: &[u8]) -> anyhow::Result<String>
         out,
         "grid {width} by {height}, spacing {spacing} cm, {count} {posts}"
     )?;
-    add_posts(&mut out, grid)?;
-    add_drawing(&mut out, grid, memory)?;
+    let drawing = Drawing { grid, memory };
+    for (ray, post) in (1..8u8).zip(drawing.posts()) {
+        let column = post.column;
+        let row = post.row;
+        writeln!(out, "ray {ray}: post at column {column}, row {row}")?;
+    }
+    write!(out, "{drawing}")?;
     Ok(out)
 }
 
@@ -139,7 +147,7 @@ fn show_road(heap: Global, road: Road, memory: &[u8]) -> anyhow::Result<String> 
 fn answer(heap: Global, held: &Held) -> anyhow::Result<String> {
     let memory = held.memory.as_slice();
     match held.plan {
-        Plan::Grid(grid) => show_grid(heap, &grid, memory),
+        Plan::Grid(grid) => show_grid(heap, grid, memory),
         Plan::Road(road) => show_road(heap, road, memory),
     }
 }
