@@ -1,8 +1,8 @@
 // Reading a grid plan, from behind its letter: its record, and the rest into lent memory.
 // The point in a row and a column has the number p = row × width + column.
 // Byte p of the memory is its risk, and byte 4,096 + p is 1 if it is blocked.
-ghost use Rattle.std.specs.Prelude.{◌≡◌, ℕ, ◌+◌, ◌^◌, ◌<◌, ◌≤◌, true, false, List, [], ◌∷◌, length, MatchResult};
-ghost use Rattle.plans.specs.GridPlans.{head_of, post_at, Inside, Opened};
+ghost use Rattle.std.specs.Prelude.{◌≡◌, ◌<◌, ◌≤◌, true, false, [], ◌∷◌, length, MatchResult};
+ghost use Rattle.plans.specs.GridPlans.{head_of, Inside, Opened};
 ghost use Rattle.plans.specs.Holdings.{blank};
 ghost use Rattle.plans.specs.Grids.{place};
 ghost use Rattle.plans.specs.GridSteps.{Squared, Taken, PostJudged, PostAdded, Holds, GridRead};

@@ -46,6 +46,7 @@ pub(crate) fn read_commands<R: Reader>(reader: &mut R, commands: &[u8]) -> Resul
     ensures said { Run (R.head reader.old) commands.now (λ cs. R.holds cs reader.new) result }
 {
     let mut left = commands;
+    // No map_err with ?: where the kind of reader is left open, the proof does not see what that closure answers.
     loop {
         match step(reader, left) {
             Ok(Some(next)) => left = next,

@@ -133,6 +133,7 @@ struct RoadReader<'a> {
     memory: &'a mut [u8],
     slots: &'a mut [u16],
     ghost long: { length memory.now ≡ 10240 },
+    ghost many: { length slots.now ≡ 1024 },
 }
 
 impl RoadReader<'_> {
@@ -221,26 +222,6 @@ impl Reader for RoadReader<'_> {
     }
 }
 
-// Reads a roadmap from behind its letter, with the index of its survey numbers in the slots.
-fn read_indexed(operands: &[u8], memory: &mut [u8], slots: &mut [u16]) -> Result<Road, Stop>
-    requires zeroed { memory.old ≡ blank }
-    requires vacant { slots.old ≡ replicate 1024 0 }
-    requires short { length operands.now < 65535 }
-    ensures { MatchResult result (λ p. Accepts (77 ∷ operands.now) p memory.new) (λ e. Reads (77 ∷ operands.now) (refused (fault_number e.fault) e.at)) }
-{
-    let road = Road {
-        points: 0,
-        lanes: 0,
-    };
-    let mut reader = RoadReader {
-        road,
-        memory,
-        slots,
-    };
-    read_commands(&mut reader, operands).map_err(|stop| stop.after(1))?;
-    Ok(reader.road)
-}
-
 // Makes the slots vacant.
 fn vacate(slots: &mut [u16])
     requires { length slots.old ≡ 1024 }
@@ -257,7 +238,22 @@ pub(crate) fn read_road(operands: &[u8], memory: &mut [u8], slots: &mut [u16]) -
     ensures said { MatchResult result (λ p. Accepts (77 ∷ operands.now) p memory.new) (λ e. Reads (77 ∷ operands.now) (refused (fault_number e.fault) e.at)) }
     ensures vacant { slots.new ≡ replicate 1024 0 }
 {
-    let answer = read_indexed(operands, memory, slots);
+    let road = Road {
+        points: 0,
+        lanes: 0,
+    };
+    let mut reader = RoadReader {
+        road,
+        memory,
+        slots,
+    };
+    let answer = read_commands(&mut reader, operands);
+    let RoadReader {
+        road,
+        memory: _memory,
+        slots,
+    } = reader;
     vacate(slots);
-    answer
+    answer.map_err(|stop| stop.after(1))?;
+    Ok(road)
 }
