@@ -35,7 +35,7 @@ use Rattle.charting.specs.Charts.{TooLarge}
 use Rattle.charting.specs.declared.memory.Search.{Search}
 use Rattle.charting.specs.Searches.{Sized, Searching, Follows, Complete, Lent, Refused}
 use Rattle.kinds.proofs.Orders.{under_of_not_less}
-use Rattle.charting.proofs.Elements.{taken_out, nil_from_length}
+use Rattle.charting.proofs.Elements.{taken_out, nil_from_length, stands_got}
 use Rattle.charting.proofs.Laters.{no_later_from_at_most, at_most_from_cheaper}
 use Rattle.charting.proofs.Advances.{progress_taken, progress_open, progress_no_lane, progress_too_far, progress_no_cheaper, progress_lowered, progress_added, progress_crowded, progress_unheld, progress_closed, progress_started, progress_nothing, progress_finished, progress_exact}
 use Rattle.charting.proofs.Waits.{taken_serves, waits_taken, waits_lowered, waits_added, waits_none}
@@ -192,85 +192,97 @@ module _ {C K : Type 0} {m : Site} (lanes : LawfulLanes m) (estimates : LawfulEs
         long : length (set xs n v) ≡ length xs
         long = length-set xs n v
 
-    -- where it has a place, that is one of the places, and its slot has a number of 16 bits
-    pub met_found : {j u : ℕ} → Names slots u j → pair_at b (take n xs) j ≡ Some (pair_of b v) → (j < length xs) × (u < 65536)
-    met_found {j} {u} names has =
-        let (x, lt, _, _, _) = of_key b xs n j v.point (b.element v.class) f.searching.progress.room has in
-        (omega (arith, f.searching.progress.room), omega (arith, names_within slots u j names, f.searching.sized.slotted, f.searching.sized.few))
+    -- the slot u is found to name the place j of the pair
+    module _ (j u : ℕ) (answer : Indexed (pair_keys b) (pair_at b (take n xs)) slots → Names slots u j × (pair_at b (take n xs) j ≡ Some (pair_of b v))) where
+      names : Names slots u j
+      names = (answer f.searching.indexed).0
 
-    -- the pair has the place j, which a slot names, and y stands there
-    module _ (j u : ℕ) (names : Names slots u j) (has : pair_at b (take n xs) j ≡ Some (pair_of b v)) {y : Pair C K} (at : Stands xs j y) where
-      met_place : (j < n) × (y.point ≡ v.point) × (b.element y.class ≡ b.element v.class)
-      met_place =
-          let (x, lt, at', e, e') = of_key b xs n j v.point (b.element v.class) f.searching.progress.room has in
-          let same : x ≡ y = stands_unique xs j x y at' at in
-          (lt, ap (λ (z : Pair C K). z.point) (sym same) ∙ e, ap (λ (z : Pair C K). b.element z.class) (sym same) ∙ e')
+      has : pair_at b (take n xs) j ≡ Some (pair_of b v)
+      has = (answer f.searching.indexed).1
 
-      met_within : j < length xs
-      met_within = omega (arith, met_place.0, f.searching.progress.room)
+      pub met_within : j < length xs
+      met_within = let (x, lt, _, _, _) = of_key b xs n j v.point (b.element v.class) f.searching.progress.room has in omega (arith, f.searching.progress.room)
 
-      -- it costs no more already
-      pub met_no_cheaper : (c.costs.order.cmp v.cost y.cost ≡ Less → ⊥) → Searching m b c q xs queue slots s (s + 1) (i + 1) n
-      met_no_cheaper not =
-          searching_on f.searching
-          (progress_no_cheaper m (law lanes estimates) b.kind b.element c.costs q.reel q.aim q.cable xs s i n f.searching.progress f.from f.stands f.lane j y f.comes.lane met_place.0 at
-          (met_place.1 ∙ f.comes.point) (met_place.2 ∙ f.comes.class) (under_of_not_less c.costs.order (onward c.costs f.from.cost f.lane) y.cost (λ e. not (ap (λ k. c.costs.order.cmp k y.cost) f.comes.cost ∙ e))))
+      -- a slot has a number of 16 bits
+      pub met_slot : u < 65536
+      met_slot = omega (arith, names_within slots u j names, f.searching.sized.slotted, f.searching.sized.few)
 
-      module _ (less : c.costs.order.cmp v.cost y.cost ≡ Less) where
-        less' : c.costs.order.cmp (onward c.costs f.from.cost f.lane) y.cost ≡ Less
-        less' = ap (λ k. c.costs.order.cmp k y.cost) (sym f.comes.cost) ∙ less
+      pub met_stands : (i : ℕ) (d : Pair C K) → i ≡ j → Stands xs j (get_or xs i d)
+      met_stands i d e = stands_got xs j i d met_within e
 
-        -- it is open, since settled pairs are cheapest
-        met_open : s + 1 ≤ j
-        met_open = progress_open m (law lanes estimates) b.kind b.element c.costs q.reel q.aim q.cable xs s i n f.searching.progress f.from f.stands f.lane j y f.comes.lane at
-            (met_place.1 ∙ f.comes.point) (met_place.2 ∙ f.comes.class) less'
+      -- y stands there
+      module _ {y : Pair C K} (at : Stands xs j y) where
+        met_place : (j < n) × (y.point ≡ v.point) × (b.element y.class ≡ b.element v.class)
+        met_place =
+            let (x, lt, at', e, e') = of_key b xs n j v.point (b.element v.class) f.searching.progress.room has in
+            let same : x ≡ y = stands_unique xs j x y at' at in
+            (lt, ap (λ (z : Pair C K). z.point) (sym same) ∙ e, ap (λ (z : Pair C K). b.element z.class) (sym same) ∙ e')
 
-        -- so it waits
-        pub met_waits : AllByRecursion (λ w. w.slot ≡ u → ⊥) (waiting queue) → ⊥
-        met_waits none =
-            let (w, is, nm) = f.searching.waits.all j met_open met_place.0 in
-            all-has (λ w. w.slot ≡ u → ⊥) (waiting queue) w none is (one_name b xs slots n f.searching.progress.room f.searching.indexed w.slot u j nm names)
+        -- it costs no more already
+        pub met_no_cheaper : (c.costs.order.cmp v.cost y.cost ≡ Less → ⊥) → Searching m b c q xs queue slots s (s + 1) (i + 1) n
+        met_no_cheaper not =
+            searching_on f.searching
+            (progress_no_cheaper m (law lanes estimates) b.kind b.element c.costs q.reel q.aim q.cable xs s i n f.searching.progress f.from f.stands f.lane j y f.comes.lane met_place.0 at
+            (met_place.1 ∙ f.comes.point) (met_place.2 ∙ f.comes.class) (under_of_not_less c.costs.order (onward c.costs f.from.cost f.lane) y.cost (λ e. not (ap (λ k. c.costs.order.cmp k y.cost) f.comes.cost ∙ e))))
 
-        -- and its record is not less than the new one
-        pub met_less : {bound : K} → bound ≡ c.costs.plus v.cost (tail m c.costs q.aim v.point) → (w : Open K) → Has (waiting queue) w → w.slot ≡ u →
-            AtMost (by_bound c.costs) (record { bound = bound; cost = v.cost; slot = u }) w
-        met_less {bound} e w is slot =
-            let (e', le, lt, serves) = all-has (λ v. (e : ℕ) × (s + 1 ≤ e) × (e < n) × Serves m c.costs q.aim xs slots v e) (waiting queue) w f.searching.waits.each is in
-            let eq : e' ≡ j = (let z : e' + 1 ≡ j + 1 = sym serves.names ∙ ap (λ a. get_or slots a 0) slot ∙ names in omega arith) in
-            let (cost, bounds) = serves.priced y (subst (λ a. Stands xs a y) (sym eq) at) in
-            at_most_from_cheaper m c.costs q.aim v.point (record { bound = bound; cost = v.cost; slot = u }) w e
-            (bounds ∙ ap (λ (k : K). c.costs.plus k (tail m c.costs q.aim y.point)) (sym cost) ∙ ap (λ p. c.costs.plus w.cost (tail m c.costs q.aim p)) met_place.1)
-            (ap (λ k. c.costs.order.cmp v.cost k) cost ∙ less)
+        module _ (less : c.costs.order.cmp v.cost y.cost ≡ Less) where
+          less' : c.costs.order.cmp (onward c.costs f.from.cost f.lane) y.cost ≡ Less
+          less' = ap (λ k. c.costs.order.cmp k y.cost) (sym f.comes.cost) ∙ less
 
-        -- it is lowered
-        pub met_lowered : {bound : K} → bound ≡ c.costs.plus v.cost (tail m c.costs q.aim v.point) → (queue' : Queue (Open K)) → length (places queue') ≡ length (places queue) →
-            Lowers c u (record { bound = bound; cost = v.cost; slot = u }) (waiting queue) (waiting queue') → Searching m b c q (set xs j v) queue' slots s (s + 1) (i + 1) n
-        met_lowered {bound} e queue' size lowers = record {
-          sized = record {
-            few = omega (arith, long, f.searching.sized.few);
-            queued = size ∙ f.searching.sized.queued ∙ sym long;
-            slotted = f.searching.sized.slotted ∙ ap (λ a. 2 * a) (sym long);
-          };
-          progress = progress_lowered m (law lanes estimates) b.kind b.element c.costs q.reel q.aim q.cable xs s i n f.searching.progress f.from f.stands f.lane j y v f.comes.lane f.comes.within met_place.0 at
-              (met_place.1 ∙ f.comes.point) (met_place.2 ∙ f.comes.class) less' f.comes.point f.comes.class f.comes.cost f.link;
-          indexed = indexed_again b xs slots n f.searching.progress.room f.searching.indexed j y v met_place.0 at (λ k. (sym met_place.1 k, sym met_place.2 k));
-          covers = f.searching.covers;
-          waits =
-              let (rest, out, in') = taken_out (waiting queue) lowers.at (record { bound = bound; cost = v.cost; slot = u }) lowers.old lowers.within lowers.stands in
-              waits_lowered m c.costs q.aim xs slots (waiting queue) (s + 1) n f.searching.waits lowers.old rest out (one_name b xs slots n f.searching.progress.room f.searching.indexed) j met_open met_place.0 met_within
-              (subst (λ a. Names slots a j) (sym lowers.slot) names) v (record { bound = bound; cost = v.cost; slot = u }) (sym lowers.slot) (refl, e) (waiting queue')
-              (IsPermutation-trans (record { bound = bound; cost = v.cost; slot = u } ∷ rest) (set (waiting queue) lowers.at (record { bound = bound; cost = v.cost; slot = u })) (waiting queue')
-              (IsPermutation-sym (set (waiting queue) lowers.at (record { bound = bound; cost = v.cost; slot = u })) (record { bound = bound; cost = v.cost; slot = u } ∷ rest) in') lowers.lowered.items);
-          kept = lowers.lowered.kept f.searching.kept;
-        }
-          where
-            long : length (set xs j v) ≡ length xs
-            long = length-set xs j v
+          -- it is open, since settled pairs are cheapest
+          met_open : s + 1 ≤ j
+          met_open = progress_open m (law lanes estimates) b.kind b.element c.costs q.reel q.aim q.cable xs s i n f.searching.progress f.from f.stands f.lane j y f.comes.lane at
+              (met_place.1 ∙ f.comes.point) (met_place.2 ∙ f.comes.class) less'
+
+          -- so it waits
+          pub met_waits : AllByRecursion (λ w. w.slot ≡ u → ⊥) (waiting queue) → ⊥
+          met_waits none =
+              let (w, is, nm) = f.searching.waits.all j met_open met_place.0 in
+              all-has (λ w. w.slot ≡ u → ⊥) (waiting queue) w none is (one_name b xs slots n f.searching.progress.room f.searching.indexed w.slot u j nm names)
+
+          -- and its record is not less than the new one
+          pub met_less : {bound : K} → bound ≡ c.costs.plus v.cost (tail m c.costs q.aim v.point) → (w : Open K) → Has (waiting queue) w → w.slot ≡ u →
+              AtMost (by_bound c.costs) (record { bound = bound; cost = v.cost; slot = u }) w
+          met_less {bound} e w is slot =
+              let (e', le, lt, serves) = all-has (λ v. (e : ℕ) × (s + 1 ≤ e) × (e < n) × Serves m c.costs q.aim xs slots v e) (waiting queue) w f.searching.waits.each is in
+              let eq : e' ≡ j = (let z : e' + 1 ≡ j + 1 = sym serves.names ∙ ap (λ a. get_or slots a 0) slot ∙ names in omega arith) in
+              let (cost, bounds) = serves.priced y (subst (λ a. Stands xs a y) (sym eq) at) in
+              at_most_from_cheaper m c.costs q.aim v.point (record { bound = bound; cost = v.cost; slot = u }) w e
+              (bounds ∙ ap (λ (k : K). c.costs.plus k (tail m c.costs q.aim y.point)) (sym cost) ∙ ap (λ p. c.costs.plus w.cost (tail m c.costs q.aim p)) met_place.1)
+              (ap (λ k. c.costs.order.cmp v.cost k) cost ∙ less)
+
+          -- it is lowered
+          pub met_lowered : {bound : K} → bound ≡ c.costs.plus v.cost (tail m c.costs q.aim v.point) → (queue' : Queue (Open K)) → length (places queue') ≡ length (places queue) →
+              Lowers c u (record { bound = bound; cost = v.cost; slot = u }) (waiting queue) (waiting queue') → Searching m b c q (set xs j v) queue' slots s (s + 1) (i + 1) n
+          met_lowered {bound} e queue' size lowers = record {
+            sized = record {
+              few = omega (arith, long, f.searching.sized.few);
+              queued = size ∙ f.searching.sized.queued ∙ sym long;
+              slotted = f.searching.sized.slotted ∙ ap (λ a. 2 * a) (sym long);
+            };
+            progress = progress_lowered m (law lanes estimates) b.kind b.element c.costs q.reel q.aim q.cable xs s i n f.searching.progress f.from f.stands f.lane j y v f.comes.lane f.comes.within met_place.0 at
+                (met_place.1 ∙ f.comes.point) (met_place.2 ∙ f.comes.class) less' f.comes.point f.comes.class f.comes.cost f.link;
+            indexed = indexed_again b xs slots n f.searching.progress.room f.searching.indexed j y v met_place.0 at (λ k. (sym met_place.1 k, sym met_place.2 k));
+            covers = f.searching.covers;
+            waits =
+                let (rest, out, in') = taken_out (waiting queue) lowers.at (record { bound = bound; cost = v.cost; slot = u }) lowers.old lowers.within lowers.stands in
+                waits_lowered m c.costs q.aim xs slots (waiting queue) (s + 1) n f.searching.waits lowers.old rest out (one_name b xs slots n f.searching.progress.room f.searching.indexed) j met_open met_place.0 met_within
+                (subst (λ a. Names slots a j) (sym lowers.slot) names) v (record { bound = bound; cost = v.cost; slot = u }) (sym lowers.slot) (refl, e) (waiting queue')
+                (IsPermutation-trans (record { bound = bound; cost = v.cost; slot = u } ∷ rest) (set (waiting queue) lowers.at (record { bound = bound; cost = v.cost; slot = u })) (waiting queue')
+                (IsPermutation-sym (set (waiting queue) lowers.at (record { bound = bound; cost = v.cost; slot = u })) (record { bound = bound; cost = v.cost; slot = u } ∷ rest) in') lowers.lowered.items);
+            kept = lowers.lowered.kept f.searching.kept;
+          }
+            where
+              long : length (set xs j v) ≡ length xs
+              long = length-set xs j v
 
   -- the pair x is at hand, at the place s
   module _ {xs : List (Pair C K)} {queue : Queue (Open K)} {slots : List ℕ} {s i n : ℕ} (h : Searching m b c q xs queue slots s (s + 1) i n) where
     pub hand_within : s < length xs
     hand_within = omega (arith, h.progress.found, h.progress.room)
+
+    pub hand_stands : (j : ℕ) (d : Pair C K) → j ≡ s → Stands xs s (get_or xs j d)
+    hand_stands j d e = stands_got xs s j d hand_within e
 
     module _ {x : Pair C K} (at : Stands xs s x) where
       pub searching_no_lane : m.lane x.point i ≡ None → Searching m b c q xs queue slots s (s + 1) (i + 1) n

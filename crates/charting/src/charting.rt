@@ -14,7 +14,7 @@ use steps::open::Open;
 use steps::task::Task;
 use tables::index::clear;
 
-// Writes a value to each place.
+// Writes a value to each place. (By `slice::fill` it gets no proof: a clone of a type parameter is not known to be its equal.)
 fn fill<T: Copy>(items: &mut [T], value: T)
     ensures { (i : ℕ) (d : T) → i < length items.new → slice_index_or items.new i d ≡ value }
 {

@@ -49,6 +49,7 @@ impl<M, C: Class, K: Cost> Search<'_, '_, '_, M, C, K> {
         ensures { Names self.now.slots.now result place }
     {
         let pair = self.places[usize::from(place)];
+        // by `map_or` it gets no proof: what the closure gives is not known there
         match self.look_up(pair.point, pair.class) {
             Some(at) => at.slot,
             None => 0,

@@ -55,8 +55,7 @@ impl<M: Map, C: Class, K: Cost> Search<'_, '_, '_, M, C, K> {
         };
         let slot = usize::from(open.slot);
         let place = self.slots[slot] - 1;
-        let settled = self.settled;
-        self.exchange(place, slot, settled);
+        self.exchange(place, slot, self.settled);
         true
     }
 
@@ -101,9 +100,7 @@ impl<M: Map, C: Class, K: Cost> Search<'_, '_, '_, M, C, K> {
         if !self.task.is_within(lane.to, cost) {
             return Ok(());
         }
-        let Some(pair) = led(&from, lane, self.settled, cost) else {
-            return Err(Refusal::ReachTooLarge);
-        };
+        let pair = led(&from, lane, self.settled, cost).ok_or(Refusal::ReachTooLarge)?;
         self.meet(pair)
     }
 

@@ -1,14 +1,12 @@
 use Rattle.std.proofs.Common.{◌+◌, ◌<◌, ap, ◌∙◌, arith, rules}
-use Rattle.charting.proofs.Elements.{stands_got}
-use Rattle.charting.proofs.Searches.{lent_on, hand_within, searching_to, searching_past, next_low}
+use Rattle.charting.proofs.Searches.{lent_on, hand_stands, searching_to, searching_past, next_low}
 use Rattle.charting.proofs.memory.Search.expand.Goals as goal
 
 pub follow-requires : goal.follow-requires
 follow-requires g c =
-    let s = c.loop-number.self in
-    let map = s.task.now.map.now in
+    let map = c.loop-number.self.task.now.map.now in
     let h = c.loop-number.invariant.hand in
-    let at = stands_got s.places.now s.settled c.from.result c.index-self-from.result (hand_within (g.met.M.Map.lanes map) (g.met.M.Map.estimates map) h) c.from.ensures in
+    let at = hand_stands (g.met.M.Map.lanes map) (g.met.M.Map.estimates map) h c.from.result c.index-self-from.result c.from.ensures in
     searching_to (g.met.M.Map.lanes map) (g.met.M.Map.estimates map) h at c.in-Some.ensures
 
 pub loop-number-smaller : goal.loop-number-smaller
@@ -27,10 +25,9 @@ loop-number-preserved g c =
 
 pub returns-clause-expanded : goal.returns-clause-expanded
 returns-clause-expanded g c =
-    let s = c.loop-number.self in
-    let map = s.task.now.map.now in
+    let map = c.loop-number.self.task.now.map.now in
     let h = c.loop-number.invariant.hand in
-    let at = stands_got s.places.now s.settled c.from.result c.index-self-from.result (hand_within (g.met.M.Map.lanes map) (g.met.M.Map.estimates map) h) c.from.ensures in
+    let at = hand_stands (g.met.M.Map.lanes map) (g.met.M.Map.estimates map) h c.from.result c.index-self-from.result c.from.ensures in
     (searching_past (g.met.M.Map.lanes map) (g.met.M.Map.estimates map) h at c.in_default.ensures, ap (λ a. a + 1) c.loop-number.invariant.settled)
 
 pub overflow_add-self : goal.overflow_add-self
