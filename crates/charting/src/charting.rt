@@ -2,7 +2,7 @@
 ghost use Rattle.std.specs.Prelude.{◌≡◌, ℕ, ◌<◌, ◌≤◌, length, take, slice_index_or};
 ghost use Rattle.charting.specs.Charts.{Fits, VacantFrom, VacantQueue, VacantSlots, Answers, Charts};
 
-use crate::search::reach;
+use crate::search::search_reach;
 use charts::chart::{Chart, Pair};
 use kinds::class::Class;
 use kinds::cost::Cost;
@@ -52,11 +52,11 @@ fn answer<M: Map, C: Class, K: Cost>(
     ensures { Answers (M.Map.site task.now.map.now) C.Class K.Cost task.now.asked (length places.old) places.new result }
 {
     task.judge()?;
-    reach(task, places, queue, slots)
+    search_reach(task, places, queue, slots)
 }
 
 // Charts the reach: the number of its pairs, which stand in the first places, each at the cost of its cheapest run and
-// linked to the pair before it on one such run.
+// linked to the pair before it on one such run. There is no heap: the recorder lends all memory, part by part.
 #[tactic(auto, using(crate::proofs::Charts::charts_so, crate::proofs::Charts::kept_within))]
 pub fn chart_reach<M: Map, C: Class, K: Cost>(
     map: &M,

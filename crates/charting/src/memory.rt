@@ -87,10 +87,12 @@ impl<M, C: Class, K: Cost> Search<'_, '_, '_, M, C, K> {
         ensures added { Adds C.Class K.Cost self.old.found pair bound self.old.places.now self.old.slots.now (waiting self.old.queue.now) self.new.places.now self.new.slots.now (waiting self.new.queue.now) }
     {
         self.places[usize::from(self.found)] = pair;
+        // lent one by one: `name_next(self.places, self.slots, ..)` gets no proof
         let found = self.found;
         let places = &mut *self.places;
         let slots = &mut *self.slots;
         let slot = name_next(places, slots, found, pair);
+        // as: it fits, since there are no more than 8,192 slots
         let _ = self.queue.push(Open {
             bound,
             cost: pair.cost,
@@ -134,7 +136,8 @@ fn rename(slots: &mut [u16], slot: usize, place: u16)
     let _ = rewrite(slots, slot, place);
 }
 
-// Lets a slot name the place after those found, which holds a new pair.
+// Lets a slot name the place after those found, which holds a new pair. (As a method, which reads the places while it
+// writes the slots, it gets no proof.)
 fn name_next<C: Class, K: Cost>(
     places: &[Pair<C, K>],
     slots: &mut [u16],

@@ -72,6 +72,7 @@ impl<M: Map, C: Class, K: Cost> Search<'_, '_, '_, M, C, K> {
             Some(at) => {
                 let old = self.places[usize::from(at.place)];
                 if is_cheaper(&pair.cost, &old.cost) {
+                    // as: it fits, since there are no more than 8,192 slots
                     self.lower(at.place, at.slot as u16, pair, bound);
                 }
                 Ok(())
@@ -110,6 +111,7 @@ impl<M: Map, C: Class, K: Cost> Search<'_, '_, '_, M, C, K> {
         ensures lent { Lent self.old self.new }
         ensures expanded { MatchResult result (λ _. Rests M.Map.site C.Class K.Cost self.new × (self.new.settled ≡ self.old.settled + 1)) (Refused M.Map.site C.Class K.Cost self.old) }
     {
+        // lanes are asked of the map one by one
         let mut from = 0;
         while let Some(number) = self
             .task
@@ -136,7 +138,8 @@ impl<M: Map, C: Class, K: Cost> Search<'_, '_, '_, M, C, K> {
     }
 }
 
-// Searches the whole reach with an empty queue and vacant slots.
+// Searches the whole reach with an empty queue and vacant slots. (A function of its own, since a struct of lent slices with
+// one that a call made, as the queue is below, gets no proof of what the places are in the end; nor without the lifetimes.)
 fn search_in<'a, 'm, 'q, M: Map, C: Class, K: Cost>(
     task: &'a Task<'m, M>,
     places: &'a mut [Pair<C, K>],
@@ -165,7 +168,7 @@ fn search_in<'a, 'm, 'q, M: Map, C: Class, K: Cost>(
 
 // Searches the whole reach: how many pairs it has, which stand in the first places.
 // Refused: it has more pairs than places, or a class that is not held.
-pub(crate) fn reach<M: Map, C: Class, K: Cost>(
+pub(crate) fn search_reach<M: Map, C: Class, K: Cost>(
     task: &Task<M>,
     places: &mut [Pair<C, K>],
     queue: &mut [Open<K>],

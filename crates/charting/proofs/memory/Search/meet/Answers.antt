@@ -59,5 +59,5 @@ returns-in-None-2-clause-met g c =
     let f = c.requires.1 in (
       refl,
       met_crowded (g.met.M.Map.lanes map) (g.met.M.Map.estimates map) f (c.in-None-2.ensures f.searching.indexed)
-      (room_from_test c.has_room.result s.found (length s.places.now) c.has_room.ensures c.if-has_room.false),
+          (room_from_test c.has_room.result s.found (length s.places.now) c.has_room.ensures c.if-has_room.false),
     )
