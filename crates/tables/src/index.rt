@@ -66,6 +66,7 @@ pub fn rewrite(slots: &mut [u16], slot: usize, place: u16) -> bool
     let Some(entry) = entry_of(place) else {
         return false;
     };
+    // by its number: through `get_mut` the proof lost what the other slots hold
     if slot >= slots.len() || is_vacant(slots[slot]) {
         return false;
     }
