@@ -3,6 +3,7 @@ use Rattle.std.proofs.Common.{◌≡◌, ℕ, ◌<◌, ◌≤◌, List, length, 
 use Rattle.std.specs.Result.{IfOk, IfErr, MatchResult}
 use Rattle.std.proofs.lemmas.Bool.{cases_lt}
 use Rattle.kinds.specs.declared.refusal.Refusal.{Refusal}
+use Rattle.kinds.specs.declared.refusal.Refusal.TheVariants.{MemorySize}
 use Rattle.kinds.specs.Maps.{Site}
 use Rattle.kinds.specs.declared.class.Class.{Ghosts as Classes}
 use Rattle.kinds.specs.declared.cost.Cost.{Ghosts as Costs}
@@ -51,6 +52,10 @@ module _ {C K : Type 0} (m : Site) (b : Classes C) (c : Costs K) (q : Asked) whe
   pub kept_within : (n : ℕ) (xs : List (Pair C K)) (r : Result ℕ Refusal) → Answers m b c q n xs r → kept_by r ≤ length xs
   kept_within n xs (Ok k) (Answers.charted np l exact (room, finished)) = room
   kept_within n xs (Err e) answers = omega arith
+
+  -- memory of a wrong size is left as it is
+  pub size_refused : (head : Option Chart) (places : List (Pair C K)) (queue : List (Open K)) (slots : List ℕ) → (Fits places queue slots → ⊥) → Charts m b c q head places queue slots head places queue slots (Err MemorySize)
+  size_refused head places queue slots not = Charts.wrong_size not (refl, refl, refl, refl)
 
   -- the memory as it is left: the places that are kept stay, and the rest is vacant
   pub charts_so : (head : Option Chart) (places : List (Pair C K)) (queue : List (Open K)) (slots : List ℕ) (mid places' : List (Pair C K)) (queue' : List (Open K)) (slots' : List ℕ) (r : Result ℕ Refusal) →

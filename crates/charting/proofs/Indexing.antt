@@ -132,9 +132,9 @@ module _ {C K : Type 0} (b : Classes C) where
   keys_few xs n room k m has = let (x, lt, _, _, _) = of_key xs n k m.0 m.1 room has in lt
 
   -- a slot is left for the next pair, so the index takes it
-  pub inserts_so : (xs : List (Pair C K)) (slots slots' : List ℕ) (n h : ℕ) (r : Result ℕ NotEntered) → length xs ≤ 4096 → n < length xs → length slots ≡ 2 * length xs →
-      Indexed (pair_keys b) (pair_at b (take (n + 1) xs)) slots → Inserts h n slots slots' r → Inserts h n slots slots' (Ok (result_unwrap_or r 0))
-  inserts_so xs slots slots' n h (Ok i) few room slotted ix inserts = inserts
-  inserts_so xs slots slots' n h (Err Full) few room slotted ix inserts =
+  pub inserts_so : (xs : List (Pair C K)) (slots slots' : List ℕ) (n h i : ℕ) (r : Result ℕ NotEntered) → i ≡ result_unwrap_or r 0 → length xs ≤ 4096 → n < length xs → length slots ≡ 2 * length xs →
+      Indexed (pair_keys b) (pair_at b (take (n + 1) xs)) slots → Inserts h n slots slots' r → Inserts h n slots slots' (Ok i)
+  inserts_so xs slots slots' n h i (Ok k) e few room slotted ix inserts = subst (λ a. Inserts h n slots slots' (Ok a)) (sym e) inserts
+  inserts_so xs slots slots' n h i (Err Full) e few room slotted ix inserts =
       absurd (not_full_from_few (pair_keys b) (pair_at b (take (n + 1) xs)) slots ix (n + 1) (keys_few xs (n + 1) (omega arith)) (omega arith) h n slots' inserts)
-  inserts_so xs slots slots' n h (Err NoEntry) few room slotted ix inserts = absurd (omega (arith, inserts.0))
+  inserts_so xs slots slots' n h i (Err NoEntry) e few room slotted ix inserts = absurd (omega (arith, inserts.0))

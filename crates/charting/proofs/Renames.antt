@@ -10,10 +10,12 @@ renamed from to i k false low (p, names) (inl high, e) = absurd (omega arith)
 renamed from to i k false low (p, names) (inr (inl past), e) = absurd (omega (arith, names_within from i p names))
 renamed from to i k false low (p, names) (inr (inr vacant), e) = absurd (let z : p + 1 ≡ 0 = sym names ∙ vacant in omega arith)
 
--- a slot that names q does so still when another is made to name q, or the same again
-pub still_names : (slots : List ℕ) (s u p q : ℕ) → Names slots s p → Names slots u q → Names (set slots s (q + 1)) u q
-still_names slots s u p q names names' =
-    elim (cases_eq u s) [
-      | inl e ↦ subst (λ a. Names (set slots s (q + 1)) a q) (sym e) (get_or-set_same slots s (q + 1) 0 (names_within slots s p names))
-      | inr ne ↦ get_or-set_other slots s u (q + 1) 0 ne ∙ names'
-    ]
+-- a slot that names a place does so still when another is made to name that place
+pub still_taken : (slots slots' : List ℕ) (s u p q : ℕ) → slots' ≡ set slots s (q + 1) → Names slots s p → Names slots u q → (k : ℕ) × Names slots' u k
+still_taken slots slots' s u p q e names names' = (
+  q,
+  subst (λ (l : List ℕ). Names l u q) (sym e) (elim (cases_eq u s) [
+    | inl e ↦ subst (λ a. Names (set slots s (q + 1)) a q) (sym e) (get_or-set_same slots s (q + 1) 0 (names_within slots s p names))
+    | inr ne ↦ get_or-set_other slots s u (q + 1) 0 ne ∙ names'
+  ]),
+)

@@ -57,7 +57,7 @@ fn answer<M: Map, C: Class, K: Cost>(
 
 // Charts the reach: the number of its pairs, which stand in the first places, each at the cost of its cheapest run and
 // linked to the pair before it on one such run. There is no heap: the recorder lends all memory, part by part.
-#[tactic(auto, using(crate::proofs::Charts::charts_so, crate::proofs::Charts::kept_within))]
+#[tactic(auto, using(crate::proofs::Charts::size_refused, crate::proofs::Charts::charts_so, crate::proofs::Charts::kept_within))]
 pub fn chart_reach<M: Map, C: Class, K: Cost>(
     map: &M,
     asked: Asked,

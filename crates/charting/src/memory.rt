@@ -76,6 +76,7 @@ impl<M, C: Class, K: Cost> Search<'_, '_, '_, M, C, K> {
     }
 
     // Puts a pair at the next place, which a slot names then, and lets it wait.
+    #[tactic(auto, using(crate::proofs::Queues::pushes_so))]
     pub(crate) fn add(&mut self, pair: Pair<C, K>, bound: K)
         requires sized { Sized self.old.places.now self.old.queue.now self.old.slots.now }
         requires room { self.old.found < length self.old.places.now }
@@ -128,6 +129,7 @@ impl<M, C: Class, K: Cost> Search<'_, '_, '_, M, C, K> {
 }
 
 // Lets a slot that names a place name another one.
+#[tactic(auto, using(crate::proofs::Renames::renamed))]
 fn rename(slots: &mut [u16], slot: usize, place: u16)
     requires low { place < 65535 }
     requires taken { (p : ℕ) × Names slots.old slot p }

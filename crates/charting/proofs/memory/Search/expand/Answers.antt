@@ -1,4 +1,4 @@
-use Rattle.std.proofs.Common.{◌+◌, ◌<◌, ap, ◌∙◌, arith, rules}
+use Rattle.std.proofs.Common.{◌+◌, ap, ◌∙◌, arith}
 use Rattle.charting.proofs.Searches.{lent_on, hand_stands, searching_to, searching_past, next_low}
 use Rattle.charting.proofs.memory.Search.expand.Goals as goal
 
@@ -29,9 +29,3 @@ returns-clause-expanded g c =
     let h = c.loop-number.invariant.hand in
     let at = hand_stands (g.met.M.Map.lanes map) (g.met.M.Map.estimates map) h c.from.result c.index-self-from.result c.from.ensures in
     (searching_past (g.met.M.Map.lanes map) (g.met.M.Map.estimates map) h at c.in_default.ensures, ap (λ a. a + 1) c.loop-number.invariant.settled)
-
-pub overflow_add-self : goal.overflow_add-self
-overflow_add-self g c =
-    let h = c.loop-number.invariant.hand in
-    let low : c.loop-number.self.settled < 4096 = omega (arith, h.progress.found, h.progress.room, h.sized.few) in
-    search rules

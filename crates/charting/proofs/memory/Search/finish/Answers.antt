@@ -1,11 +1,5 @@
-use Rattle.std.proofs.Common.{arith}
 use Rattle.charting.proofs.Searches.{lent_on}
 use Rattle.charting.proofs.memory.Search.finish.Goals as goal
-
-pub loop-self-smaller : goal.loop-self-smaller
-loop-self-smaller g c =
-    let h = c.loop-self-test.ensures.taken in
-    omega (arith, h.progress.found, h.progress.room, c.take_up.ensures.settled, c.take_up.ensures.lent.long, c.expand.ensures.lent.long, c.in_ok-expand.ensures.expanded.1)
 
 pub loop-self-preserved : goal.loop-self-preserved
 loop-self-preserved g c = record {
