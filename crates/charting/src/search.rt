@@ -10,6 +10,7 @@ use kinds::class::Class;
 use kinds::cost::Cost;
 use kinds::map::Map;
 use kinds::refusal::Refusal;
+use steps::judging::answered;
 use steps::leading::{cost_on, following, has_room, led};
 use steps::open::Open;
 use steps::task::{Task, is_cheaper};
@@ -101,7 +102,7 @@ impl<M: Map, C: Class, K: Cost> Search<'_, '_, '_, M, C, K> {
         if !self.task.is_within(lane.to, cost) {
             return Ok(());
         }
-        let pair = led(&from, lane, self.settled, cost).ok_or(Refusal::ReachTooLarge)?;
+        let pair = answered(led(&from, lane, self.settled, cost))?;
         self.meet(pair)
     }
 

@@ -3,7 +3,7 @@
 --     Pointless m q            the reel or the aim is no point of the map
 --     Judged m q r             r refuses q for what is wrong with it, before any search: with 12, then 13; or nothing is wrong
 --     headed m q n             the head of a chart of n pairs
---     or_too_large o           the number in o, or refusal 14
+--     or_too_large o           what is in o, or refusal 14
 --     kept_by r, head_of m q r  how many places a chart keeps, and its head: none where it is refused
 --     VacantPlace b c x        x is a vacant place: point 0, the unit, zero, no link
 --     VacantRecord c w         w is a vacant queue place: zero and zero, slot 0
@@ -35,7 +35,7 @@ pub data Judged (m : Site) (q : Asked) : Result (Unit {0}) Refusal → Type 0 wh
 abbrev pub headed : Site → Asked → ℕ → Chart
 headed m q n = record { reel = q.reel; aim = q.aim; pairs = n; points = m.points }
 
-abbrev pub or_too_large : Option ℕ → Result ℕ Refusal
+abbrev pub or_too_large : {A : Type 0} → Option A → Result A Refusal
 or_too_large o = ok_or o ReachTooLarge
 
 abbrev pub kept_by : Result ℕ Refusal → ℕ

@@ -18,11 +18,11 @@ pub fn has_sizes(places: usize, queue: usize, slots: usize) -> bool
     (1..=MOST_PLACES).contains(&places) && queue == places && slots == 2 * places
 }
 
-// What the search comes to: the number of pairs, or that the reach is too large.
-pub fn answered(pairs: Option<u16>) -> Result<u16, Refusal>
-    ensures { result ≡ or_too_large pairs }
+// What was found, or that the reach is too large where it is missing.
+pub fn answered<T>(found: Option<T>) -> Result<T, Refusal>
+    ensures { result ≡ or_too_large found }
 {
-    pairs.ok_or(Refusal::ReachTooLarge)
+    found.ok_or(Refusal::ReachTooLarge)
 }
 
 // How many places the chart keeps.

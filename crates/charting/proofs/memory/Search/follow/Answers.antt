@@ -21,7 +21,7 @@ returns-in_err-pair-clause-followed g c =
     let at = hand_stands (g.met.M.Map.lanes map) (g.met.M.Map.estimates map) c.requires c.from.result c.index-self-from.result c.from.ensures in
     let is : c.led.result ≡ None = grind arith in
     let p = err_from_is_err_and c.from_residual.result c.from_residual.ensures.1 in
-    let v = rw is at c.in_err-pair.ensures.value in
+    let v = rw is at c.in_err-pair.ensures in
     rw (p.1, p.2) ((cc), searching_unheld (g.met.M.Map.lanes map) (g.met.M.Map.estimates map) c.requires at (sym c.in-Some.ensures) c.cost_on-cost.ensures (c.is_within.ensures.0 c.if-not-is_within.false) (rw is at c.led.ensures))
 
 pub meet-requires : goal.meet-requires
