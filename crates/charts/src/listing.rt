@@ -4,6 +4,7 @@ ghost use Rattle.charts.specs.Ranks.{by_cost};
 ghost use Rattle.charts.specs.Listed.{ListsTruly};
 ghost use Rattle.charts.specs.Listing.{is_at, priced, priced_at, ListsIn, ListsAt};
 
+use crate::asking::asked_at;
 use crate::chart::{Charted, Pair, Priced};
 use kinds::class::Class;
 use kinds::cost::Cost;
@@ -94,7 +95,7 @@ impl<C: Class, K: Cost> Charted<'_, C, K> {
     fn list_asked(&self, point: u16, list: &mut [Priced<C, K>]) -> Result<usize, Refusal>
         ensures { ListsAt C.Class K.Cost self.now.head self.now.places.now point list.old list.new result }
     {
-        let head = self.asked_at(point)?;
+        let head = asked_at(&self.head, self.places.len(), point)?;
         list_in(&self.places[..usize::from(head.pairs)], point, list)
     }
 }

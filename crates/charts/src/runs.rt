@@ -3,6 +3,7 @@ ghost use Rattle.std.specs.Prelude.{◌≡◌, ◌<◌, length, Ok};
 ghost use Rattle.charts.specs.Laid.{LaysTruly};
 ghost use Rattle.charts.specs.Trails.{is_home, next_of, Leads, Counts, Reversed, RunsIn, WritesRun};
 
+use crate::asking::asked_at;
 use crate::chart::{Charted, Pair};
 use crate::finding::{first_place, is_pair};
 use kinds::class::Class;
@@ -103,7 +104,7 @@ impl<C: Class, K: Cost> Charted<'_, C, K> {
     fn write_asked(&self, point: u16, class: &C, buffer: &mut [u16]) -> Result<usize, Refusal>
         ensures { WritesRun C.Class self.now.head self.now.places.now point class.now buffer.old buffer.new result }
     {
-        let head = self.asked_at(point)?;
+        let head = asked_at(&self.head, self.places.len(), point)?;
         let links = Links {
             pairs: &self.places[..usize::from(head.pairs)],
             reel: head.reel,
