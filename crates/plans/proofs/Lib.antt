@@ -28,5 +28,4 @@ pub mod Shapes
 pub mod Spelling
 pub mod Stops
 pub mod Tellings
-pub mod Offsets
 pub mod PlanKinds

@@ -1,7 +1,6 @@
 -- What reading answers of a whole plan, from what is read behind its first letter.
-use Rattle.std.proofs.Common.{◌≡◌, ℕ, ◌≤◌, List, [], ◌∷◌, length, Some, sym, refl, ap, subst, inl, inr, arith}
+use Rattle.std.proofs.Common.{◌≡◌, ℕ, List, ◌∷◌, Some, sym, subst}
 use Rattle.kinds.specs.declared.refusal.Refusal.{Refusal}
-use Rattle.kinds.specs.declared.refusal.Refusal.TheVariants.{NotAPlan}
 use Rattle.kinds.specs.Refusals.{number_of, offset_of}
 use Rattle.plans.specs.declared.plan.Grid.{Grid}
 use Rattle.plans.specs.declared.plan.Road.{Road}
@@ -13,7 +12,6 @@ use Rattle.plans.specs.GridPlans.{head_of}
 use Rattle.plans.specs.GridPlans as grids
 use Rattle.plans.specs.RoadPlans as roads
 use Rattle.plans.specs.Readings.{Accepted, RefusedAs}
-use Rattle.plans.proofs.Offsets.{offset_within}
 use Rattle.plans.proofs.RoadReadings.{road_told}
 use Rattle.plans.proofs.Tellings.{plan_tells}
 
@@ -36,15 +34,6 @@ module _ (xs ops : List ℕ) (b : ℕ) (front : xs ≡ b ∷ ops) where
         maps = plan_tells a.commands (kind.Road r) m told;
       }
 
-  pub stop_within : (e : Stop) → Reads (b ∷ ops) (refused (fault_number e.fault) e.at) → length xs ≤ 65535 → e.at ≤ 65535
-  stop_within e h l = omega (arith, offset_within (b ∷ ops) (fault_number e.fault) e.at h, ap length front)
-
   pub stop_refused : (e : Stop) (r : Refusal) → Reads (b ∷ ops) (refused (fault_number e.fault) e.at) → number_of r ≡ fault_number e.fault → offset_of r ≡ Some e.at → RefusedAs xs r
   stop_refused e r h n o =
       (e.at, o, subst (λ ys. Reads ys (refused (number_of r) e.at)) (sym front) (subst (λ k. Reads (b ∷ ops) (refused k e.at)) (sym n) h))
-
-  pub unknown_refused : (b ≡ 71 → ⊥) → (b ≡ 77 → ⊥) → RefusedAs xs NotAPlan
-  unknown_refused g m = (0, refl, inr (inl (b, ops, front, g, m, refl, refl)))
-
-pub empty_refused : (xs : List ℕ) → xs ≡ [] → RefusedAs xs NotAPlan
-empty_refused xs e = (0, refl, inl (e, refl, refl))

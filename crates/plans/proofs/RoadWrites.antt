@@ -1,17 +1,8 @@
 -- Bytes written over the zeros that pad a list.
 use Rattle.std.proofs.Common.{◌≡◌, ℕ, suc, ◌+◌, ◌-◌, ◌≤◌, List, [], ◌∷◌, ◌++◌, length, take, drop, replicate, sym, refl, ap, ◌∙◌, append_assoc, arith}
-use borrow.Rule.Slice.PartMut.{put_mid}
 use Rattle.std.proofs.lemmas.List.{length-append, take_at, take-append-le, drop_at, drop-drop, drop-append-le, drop-replicate, length-replicate}
 use Rattle.plans.specs.RoadPlans.{padded}
 use Rattle.plans.specs.RoadSteps.{put}
-
--- a part of a slice that is written as a whole
-pub put_part : (i : ℕ) (m ys zs : List ℕ) → zs ≡ ys → put_mid i (i + length ys - i) m zs ≡ put m i ys
-put_part i m ys zs e =
-    let n : i + length ys - i ≡ length ys = omega arith in
-    ap (λ k. take i m ++ (zs ++ drop k (drop i m))) n
-    ∙ ap (λ r. take i m ++ (zs ++ r)) (drop-drop (length ys) i m)
-    ∙ ap (λ r. take i m ++ (r ++ drop (i + length ys) m)) e
 
 -- a write into the front of two lists, and into the second
 pub put_front : (xs zs : List ℕ) (i : ℕ) (ys : List ℕ) → i + length ys ≤ length xs → put (xs ++ zs) i ys ≡ put xs i ys ++ zs

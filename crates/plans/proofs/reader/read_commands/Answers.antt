@@ -28,18 +28,8 @@ loop-next-preserved g c =
       ),
     )
 
-pub overflow_sub-commands : goal.overflow_sub-commands
-overflow_sub-commands g c =
-    let inv = c.loop-next.invariant in
-    omega (arith, length_begins (g.R.Reader.head c.args.reader.now) c.args.commands.now inv.2.0 c.loop-next.left.now inv.2.1)
-
-pub after-requires : goal.after-requires
-after-requires g c =
-    let inv = c.loop-next.invariant in
-    omega (arith, length_begins (g.R.Reader.head c.args.reader.now) c.args.commands.now inv.2.0 c.loop-next.left.now inv.2.1, c.in-Err.ensures.said.0)
-
-pub returns-in-Err : goal.returns-in-Err
-returns-in-Err g c =
+pub returns-in-Err-clause-said : goal.returns-in-Err-clause-said
+returns-in-Err-clause-said g c =
     let inv = c.loop-next.invariant in
     let stop = c.in-Err.stop in
     let said = c.in-Err.ensures.said in
@@ -47,11 +37,5 @@ returns-in-Err g c =
     let left = c.loop-next.left.now in
     let all = length_begins h c.args.commands.now inv.2.0 left inv.2.1 in
     let fault : Fault h inv.2.0 left (fault_number stop.fault) stop.at = subst (λ (k : Head). Fault k inv.2.0 left (fault_number stop.fault) stop.at) inv.0 (said.1 inv.2.0 inv.2.2) in
-    record {
-      head = c.step.ensures.head ∙ inv.0;
-      same_slices = c.step.ensures.same_slices ∙ inv.1;
-      said = subst (λ (s : Stop). Run h c.args.commands.now (λ cs. g.R.Reader.holds cs c.step.new.reader) (Err s)) (sym c.after.ensures) (
-        omega (arith, all, said.0),
-        record { commands = inv.2.0; left = left; at = stop.at; begins = inv.2.1; fault = fault; offset = omega (arith, all) },
-      );
-    }
+    subst (λ (s : Stop). Run h c.args.commands.now (λ cs. g.R.Reader.holds cs c.step.new.reader) (Err s)) (sym c.after.ensures)
+    (omega (arith, all, said.0), record { commands = inv.2.0; left = left; at = stop.at; begins = inv.2.1; fault = fault; offset = omega (arith, all) })

@@ -1,5 +1,4 @@
 use Rattle.std.proofs.Common.{◌≡◌, ◌≤◌, ◌∷◌, length, Some, Result, subst, arith, rules}
-use Rattle.std.proofs.lemmas.List.{nil_from_length}
 use Rattle.std.proofs.lemmas.Result.{err_from_is_err_and, MatchResult-at_ok, MatchResult-at_err}
 use Rattle.kinds.specs.declared.refusal.Refusal.{Refusal}
 use Rattle.kinds.specs.Refusals.{number_of, offset_of}
@@ -9,11 +8,8 @@ use Rattle.plans.specs.GridPlans.{Opened}
 use Rattle.plans.specs.Faults.{fault_number}
 use Rattle.plans.proofs.Fronts.{rest, front_letter}
 use Rattle.plans.proofs.Mapped.{mapped_err, mapped_ok}
-use Rattle.plans.proofs.PlanKinds.{grid_accepted, road_accepted, stop_refused, empty_refused}
+use Rattle.plans.proofs.PlanKinds.{grid_accepted, road_accepted, stop_refused}
 use Rattle.plans.proofs.reading.read_kind.Goals as goal
-
-pub returns-in_default : goal.returns-in_default
-returns-in_default c = record { said = empty_refused c.args.bytes.now (nil_from_length c.args.bytes.now (search rules)); vacant = search rules }
 
 -- a stop in reading is refused as it says
 abbrev Refuses : Stop → Refusal → Type 0
