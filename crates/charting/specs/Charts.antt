@@ -17,7 +17,7 @@ use Rattle.kinds.specs.declared.cost.Cost.{Ghosts as Costs}
 use Rattle.charts.specs.declared.chart.Pair.{Pair}
 use Rattle.charts.specs.declared.chart.Chart.{Chart}
 use Rattle.charts.specs.Charts.{Finished, Crowded, Unheld}
-pub use Rattle.steps.specs.Ends.{NoAim, Pointless, Judged, headed, or_too_large, kept_by, head_of, VacantPlace, VacantRecord}
+pub use Rattle.steps.specs.Ends.{NoAim, Pointless, Judged, headed, kept_by, head_of, VacantPlace, VacantRecord}
 use Rattle.steps.specs.declared.asked.Asked.{Asked}
 use Rattle.steps.specs.declared.open.Open.{Open}
 

@@ -18,8 +18,9 @@ use steps::task::Task;
 use tables::index::{Found, find, insert, rewrite};
 use tables::queue::Queue;
 
-// A search as it stands. The found pairs have the first places, of these the settled ones the first, and the slots name
-// the places of the found pairs; the others of them are open, and wait in the queue.
+// A search as it stands: its task, the memory that is lent to it, and how many pairs are found and how many of these
+// settled. Found pairs have the first places, settled ones the first of these. The slots name the places of found pairs,
+// and those that are not settled yet wait in the queue.
 #[derive(Drop)]
 pub(crate) struct Search<'a, 'm, 'q, M, C, K> {
     pub(crate) task: &'a Task<'m, M>,

@@ -112,7 +112,7 @@ impl<M: Map, C: Class, K: Cost> Search<'_, '_, '_, M, C, K> {
         ensures lent { Lent self.old self.new }
         ensures expanded { MatchResult result (λ _. Rests M.Map.site C.Class K.Cost self.new × (self.new.settled ≡ self.old.settled + 1)) (Refused M.Map.site C.Class K.Cost self.old) }
     {
-        // lanes are asked of the map one by one
+        // no `for`: the map answers lane by lane
         let mut from = 0;
         while let Some(number) = self
             .task
@@ -139,12 +139,12 @@ impl<M: Map, C: Class, K: Cost> Search<'_, '_, '_, M, C, K> {
     }
 }
 
-// Searches the whole reach with an empty queue and vacant slots. (A function of its own, since a struct of lent slices with
-// one that a call made, as the queue is below, gets no proof of what the places are in the end; nor without the lifetimes.)
-fn search_in<'a, 'm, 'q, M: Map, C: Class, K: Cost>(
-    task: &'a Task<'m, M>,
+// Searches the whole reach with an empty queue and vacant slots. (Within `search_reach`, which makes the queue by a call, or
+// without the lifetime, it gets no proof of what the places hold in the end.)
+fn search_in<'a, M: Map, C: Class, K: Cost>(
+    task: &'a Task<M>,
     places: &'a mut [Pair<C, K>],
-    queue: &'a mut Queue<'q, Open<K>>,
+    queue: &'a mut Queue<Open<K>>,
     slots: &'a mut [u16],
 ) -> Result<u16, Refusal>
     requires here { task.now.asked.reel < (M.Map.site task.now.map.now).points }
