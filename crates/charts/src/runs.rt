@@ -44,6 +44,7 @@ impl<C: Class, K: Cost> Links<'_, C, K> {
         ensures { Counts C.Class self.now.reel self.now.pairs.now first result }
     {
         let mut place = first;
+        // counted from 0: over `1..=len` the proof found nothing at the loop's end
         for count in 0..self.pairs.len() {
             match self.next_of(&self.pairs[place])? {
                 Some(before) => place = usize::from(before),

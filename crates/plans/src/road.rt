@@ -2,7 +2,6 @@
 ghost use Rattle.std.specs.Prelude.{◌≡◌, ◌<◌, cond, Some, None};
 ghost use Rattle.plans.specs.Rays.{crossing_of};
 ghost use Rattle.plans.specs.Roads.{few, sound, onward, backward, leg, two_at, link_at, net_of, road_site};
-ghost use Rattle.plans.specs.Rays.{crossing_of};
 ghost use Rattle.plans.specs.RoadsLemmas.{lawful_lanes, lawful_estimates};
 
 use crate::memory::Memory;

@@ -186,9 +186,7 @@ impl RoadReader<'_> {
         if !is_in_range(join.length, join.crossing) {
             return Err(Fault::OutOfRange);
         }
-        let Some((first, second)) = self.ends_of(join) else {
-            return Err(Fault::BadEnds);
-        };
+        let (first, second) = self.ends_of(join).ok_or(Fault::BadEnds)?;
         if !has_lane_room(self.road.lanes) {
             return Err(Fault::TooMany);
         }
