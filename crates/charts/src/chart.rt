@@ -20,7 +20,8 @@ pub struct Chart {
     pub points: u16,
 }
 
-// A chart as it is asked: its head, if one stands, and all its places.
+// A chart as it is asked: its head, if one stands, and all its places. A point, and the list or buffer that is filled for it,
+// come with each call.
 #[derive(Clone, Copy)]
 pub struct Charted<'a, C, K> {
     pub head: Option<Chart>,

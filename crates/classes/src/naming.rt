@@ -25,6 +25,7 @@ fn join(word: &mut Vec<Letter>, more: Letter)
 }
 
 // The word of a list of crossings, of any length, into `word`, whatever that held. Where memory is wanting, `word` is empty.
+// The vector is lent, so that the contract can say when memory is wanting.
 pub fn name(crossings: &[Crossing], word: &mut Vec<Letter>) -> Result<(), AllocError>
     ensures { MatchResult result (λ _. Names crossings.now word.new.items) (λ _. (word.new.items ≡ []) × (vec_capacity word.old < length crossings.now)) }
 {

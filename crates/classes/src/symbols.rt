@@ -45,6 +45,7 @@ impl Error for Unread {}
 
 // The crossings that characters stand for, into `crossings`, whatever that held.
 // At a character that stands for none, those before it; where memory is wanting, nothing.
+// The vector is lent, so that the contract can say when memory is wanting.
 pub fn read(symbols: &[char], crossings: &mut Vec<Crossing>) -> Result<(), Unread>
     ensures { ReadAll symbols.now (vec_capacity crossings.old) crossings.new.items result }
 {

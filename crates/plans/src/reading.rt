@@ -92,7 +92,7 @@ fn read_guarded(bytes: &[u8], memory: &mut [u8], slots: &mut [u16]) -> Result<Pl
     Ok(plan)
 }
 
-// Whether a plan of so many bytes is too long to be read.
+// Whether a plan of so many bytes is too long to be read. A function of its own: it decides a refusal.
 fn is_too_long(bytes: usize) -> bool
     ensures { Decides result (65535 < bytes) }
 {

@@ -7,7 +7,7 @@ use kinds::class::Class;
 use kinds::cost::Cost;
 use kinds::lane::Lane;
 
-// Whether there is a place for one more pair.
+// Whether there is a place for one more pair. A function of its own: it decides whether the reach is too large.
 pub fn has_room(found: u16, places: usize) -> bool
     ensures { Decides result (found < places) }
 {

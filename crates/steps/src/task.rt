@@ -82,7 +82,7 @@ impl<M: Map> Task<'_, M> {
     }
 }
 
-// Whether the cable number is too large.
+// Whether the cable number is too large. A function of its own: it decides a refusal.
 fn is_too_long(cable: u32) -> bool
     ensures { Decides result (1000000 < cable) }
 {

@@ -1,5 +1,6 @@
 // A hash index over lent slots, by linear probing: an entry of 0 is vacant, and k + 1 names the place k.
 // Entries stay in their slots, so a caller may keep a slot's number.
+// Slots and keys come with each call, and not as one value: the slots are lent, and the keys change between calls.
 ghost use Rattle.std.specs.Prelude.{◌≡◌, ◌+◌, ◌-◌, ◌%◌, ◌<◌, length, replicate, Decides, MatchOption};
 ghost use Rattle.tables.specs.Probes.{Walks};
 ghost use Rattle.tables.specs.Indexes.{Reads, LooksUp, Exact, Opens, Inserts, Keeps, Rewrites, Lasts};
