@@ -12,7 +12,6 @@ use Rattle.charts.specs.declared.chart.Pair.{Pair}
 use Rattle.charts.specs.Charts.{Stands, Is, Holds, Precedes, Linked, Finished, Crowded, Unheld}
 use Rattle.charting.specs.Places.{Span, Distinct, Links, Progress}
 use Rattle.kinds.proofs.Orders.{under_of_eq, under_trans, less_not_under}
-use Rattle.kinds.proofs.Runs.{runs_at_reel}
 use Rattle.kinds.proofs.Limits.{run_bound}
 use Rattle.charts.proofs.Stands.{stands_some, stands_unique, stands_set_same, stands_set_other, stands_unset, stands_take, stands_untake}
 use Rattle.charting.proofs.Picks.{done}
@@ -79,7 +78,7 @@ module _ {C K : Type 0} (m : Site) (law : Lawful m) (G : ClassKind) (el : C → 
   start_within : (S X : Pairs G.Element K) (i : ℕ) (O : Pairs G.Element K) → Searched m G k reel aim cable S X i O →
       (p : ℕ) (g : G.Element) (c : K) → Known S X O p g c → Within m k aim cable reel k.zero
   start_within S X i O inv p g c f =
-      let (ns, ls, r, e, d) = found_runs m law G k reel aim cable S X i O inv p g c f in
+      let (ns, ls, r, e, d) = found_runs law inv p g c f in
       under_trans k.order _ _ _ (run_bound m law.estimates k aim k.zero reel ns ls p r)
       (subst (λ (z : K). Under k.order (k.plus z (tail m k aim p)) (k.limit cable)) (sym (k.left _ ∙ d)) (inv.within p g c f))
 
@@ -91,7 +90,8 @@ module _ {C K : Type 0} (m : Site) (law : Lawful m) (G : ClassKind) (el : C → 
       let (b, f', u) = chart.searched.start (start_within _ _ i _ chart.searched x.point (el x.class) x.cost f) in
       (b, place_found G el xs s t n reel G.unit b chart.settled chart.found f', u)
 
-  module _ (xs : List (Pair C K)) (s i n : ℕ) (chart : Progress m G el k reel aim cable xs s (s + 1) i n) where
+module _ {C K : Type 0} {m : Site} (law : Lawful m) {G : ClassKind} {el : C → G.Element} {k : CostKind K} {reel : ℕ} {aim : Option ℕ} {cable : ℕ} where
+  module _ {xs : List (Pair C K)} {s i n : ℕ} (chart : Progress m G el k reel aim cable xs s (s + 1) i n) where
     next : Searched m G k reel aim cable (Span G el xs 0 s) (Span G el xs s (s + 1)) (i + 1) (Span G el xs (s + 1) n) → Progress m G el k reel aim cable xs s (s + 1) (i + 1) n
     next inv =
         record {
@@ -104,18 +104,18 @@ module _ {C K : Type 0} (m : Site) (law : Lawful m) (G : ClassKind) (el : C → 
         }
 
     -- the pair at hand is x, at the place s
-    module _ (x : Pair C K) (at : Stands xs s x) where
+    module _ {x : Pair C K} (at : Stands xs s x) where
       pub progress_no_lane : m.lane x.point i ≡ None → Progress m G el k reel aim cable xs s (s + 1) (i + 1) n
-      progress_no_lane e = next (no_lane m law G k reel aim cable _ _ i _ chart.searched x.point (el x.class) x.cost (span_one G el xs s x at) e)
+      progress_no_lane e = next (no_lane law chart.searched x.point (el x.class) x.cost (span_one G el xs s x at) e)
 
-      pub progress_too_far : (l : Lane) → m.lane x.point i ≡ Some l → (Within m k aim cable l.to (onward k x.cost l) → ⊥) → Progress m G el k reel aim cable xs s (s + 1) (i + 1) n
-      progress_too_far l e far = next (too_far m law G k reel aim cable _ _ i _ chart.searched x.point (el x.class) x.cost (span_one G el xs s x at) l e far)
+      pub progress_too_far : {l : Lane} → m.lane x.point i ≡ Some l → (Within m k aim cable l.to (onward k x.cost l) → ⊥) → Progress m G el k reel aim cable xs s (s + 1) (i + 1) n
+      progress_too_far {l} e far = next (too_far law chart.searched x.point (el x.class) x.cost (span_one G el xs s x at) l e far)
 
       -- the lane leads to a pair y that costs no more
-      pub progress_no_cheaper : (l : Lane) (j : ℕ) (y : Pair C K) → m.lane x.point i ≡ Some l → j < n → Stands xs j y → y.point ≡ l.to → el y.class ≡ G.mul (el x.class) (crossed G l.crossing) →
+      pub progress_no_cheaper : {l : Lane} (j : ℕ) {y : Pair C K} → m.lane x.point i ≡ Some l → j < n → Stands xs j y → y.point ≡ l.to → el y.class ≡ G.mul (el x.class) (crossed G l.crossing) →
           Under k.order y.cost (onward k x.cost l) → Progress m G el k reel aim cable xs s (s + 1) (i + 1) n
-      progress_no_cheaper l j y e lt there f f' u =
-          next (no_cheaper m law G k reel aim cable _ _ i _ chart.searched x.point (el x.class) x.cost (span_one G el xs s x at) l e (y.cost, found_place G el xs s (s + 1) n j y _ _ lt there f f', u))
+      progress_no_cheaper {l} j {y} e lt there f f' u =
+          next (no_cheaper law chart.searched x.point (el x.class) x.cost (span_one G el xs s x at) l e (y.cost, found_place G el xs s (s + 1) n j y _ _ lt there f f', u))
 
       -- the lane leads to a pair that has no other place than j, where it is new or dearer; v is written there. The places below n' are those below n, and j
       written : (l : Lane) (j n' : ℕ) (v : Pair C K) → m.lane x.point i ≡ Some l → Within m k aim cable l.to (onward k x.cost l) →
@@ -131,7 +131,7 @@ module _ {C K : Type 0} (m : Site) (law : Lawful m) (G : ClassKind) (el : C → 
             found = found;
             room = subst (λ (z : ℕ). n' ≤ z) (sym (length-set xs j v)) room;
             searched =
-                resaid m law G k reel aim cable _ _ (i + 1) _ inv (Span G el ys 0 s) (Span G el ys s (s + 1)) (Span G el ys (s + 1) n')
+                resaid law inv (Span G el ys 0 s) (Span G el ys s (s + 1)) (Span G el ys (s + 1) n')
                 (span_same G el ys xs 0 s (λ a z le lt. stands_unset xs j a v z (low a (lt_more a lt))))
                 (span_same G el xs ys 0 s (λ a z le lt. stands_set_other xs j a v z (low a (lt_more a lt))))
                 (span_same G el ys xs s (s + 1) (λ a z le lt. stands_unset xs j a v z (low a lt)))
@@ -192,7 +192,7 @@ module _ {C K : Type 0} (m : Site) (law : Lawful m) (G : ClassKind) (el : C → 
 
           inv : Searched m G k reel aim cable (Span G el xs 0 s) (Span G el xs s (s + 1)) (i + 1) (Span G el ys (s + 1) n')
           inv =
-              opened m law G k reel aim cable _ _ i _ chart.searched x.point (el x.class) x.cost (span_one G el xs s x at)
+              opened law chart.searched x.point (el x.class) x.cost (span_one G el xs s x at)
               l (Span G el ys (s + 1) n') (span_here G el xs s (s + 1) s x (omega arith) (omega arith) at) e w free
               (j, v, sj, jn, at_v, vp, vc, vk) grown kept
 
@@ -234,16 +234,16 @@ module _ {C K : Type 0} (m : Site) (law : Lawful m) (G : ClassKind) (el : C → 
               ]
 
       -- a pair that this lane makes cheaper is open: a settled pair would cost no more
-      pub progress_open : (l : Lane) (j : ℕ) (y : Pair C K) → m.lane x.point i ≡ Some l → Stands xs j y → y.point ≡ l.to → el y.class ≡ G.mul (el x.class) (crossed G l.crossing) →
+      pub progress_open : {l : Lane} (j : ℕ) {y : Pair C K} → m.lane x.point i ≡ Some l → Stands xs j y → y.point ≡ l.to → el y.class ≡ G.mul (el x.class) (crossed G l.crossing) →
           k.order.cmp (onward k x.cost l) y.cost ≡ Less → s + 1 ≤ j
-      progress_open l j y e aty yp yc less = open_place (cases_lt j (s + 1))
+      progress_open {l} j {y} e aty yp yc less = open_place (cases_lt j (s + 1))
         where
           open_place : (j < s + 1) ⊎ (s + 1 ≤ j) → s + 1 ≤ j
           open_place (inr h) = h
           open_place (inl h) =
               absurd
               (less_not_under k.order _ _ less
-              (settled_no_dearer m law G k reel aim cable _ _ i _ chart.searched x.point (el x.class) x.cost i l y.cost
+              (settled_no_dearer law chart.searched x.point (el x.class) x.cost i l y.cost
               (inr (inl (span_here G el xs s (s + 1) s x (omega arith) (omega arith) at))) e (settled (cases_lt j s))))
             where
               settled : (j < s) ⊎ (s ≤ j) →
@@ -252,19 +252,19 @@ module _ {C K : Type 0} (m : Site) (law : Lawful m) (G : ClassKind) (el : C → 
               settled (inr b) = inr (j, y, b, h, aty, yp, yc, refl)
 
       -- the lane leads to an open pair, at the place j, that is dearer
-      pub progress_lowered : (l : Lane) (j : ℕ) (y v : Pair C K) → m.lane x.point i ≡ Some l → Within m k aim cable l.to (onward k x.cost l) →
+      pub progress_lowered : {l : Lane} (j : ℕ) {y : Pair C K} (v : Pair C K) → m.lane x.point i ≡ Some l → Within m k aim cable l.to (onward k x.cost l) →
           j < n → Stands xs j y → y.point ≡ l.to → el y.class ≡ G.mul (el x.class) (crossed G l.crossing) →
           k.order.cmp (onward k x.cost l) y.cost ≡ Less →
           v.point ≡ l.to → el v.class ≡ G.mul (el x.class) (crossed G l.crossing) → v.cost ≡ onward k x.cost l → v.link ≡ Some s →
           Progress m G el k reel aim cable (set xs j v) s (s + 1) (i + 1) n
-      progress_lowered l j y v e w jn aty yp yc less vp vc vk vl =
+      progress_lowered {l} j {y} v e w jn aty yp yc less vp vc vk vl =
           written l j n v e w high jn (omega arith) chart.room (λ a lt ne. lt) vp vc vk vl new dearer not_reel
         where
           is_y : (z : Pair C K) → Stands xs j z → z ≡ y
           is_y z atz = stands_unique xs j z y atz aty
 
           high : s + 1 ≤ j
-          high = progress_open l j y e aty yp yc less
+          high = progress_open j e aty yp yc less
 
           new : (a : ℕ) (z : Pair C K) → (a ≡ j → ⊥) → a < n → Stands xs a z → z.point ≡ l.to → el z.class ≡ G.mul (el x.class) (crossed G l.crossing) → ⊥
           new a z ne la ata f f' = ne (chart.distinct a j z y la jn ata aty (f ∙ sym yp) (f' ∙ sym yc))
@@ -276,7 +276,7 @@ module _ {C K : Type 0} (m : Site) (law : Lawful m) (G : ClassKind) (el : C → 
 
           not_reel : Is m G el k reel aim cable v reel G.unit → ⊥
           not_reel is =
-              let (b, (a, z, le, lt, ata, f, f', d), u) = reel_place xs s (s + 1) i n j y chart jn aty in
+              let (b, (a, z, le, lt, ata, f, f', d), u) = reel_place m law G el k reel aim cable xs s (s + 1) i n j y chart jn aty in
               let same : a ≡ j = chart.distinct a j z y lt jn ata aty (f ∙ sym is.0 ∙ vp ∙ sym yp) (f' ∙ sym is.1 ∙ vc ∙ sym yc) in
               let eq : y.cost ≡ b = ap (λ (w : Pair C K). w.cost) (sym (is_y z (subst (λ (c : ℕ). Stands xs c z) same ata))) ∙ d in
               less_not_under k.order _ _ less
@@ -284,11 +284,11 @@ module _ {C K : Type 0} (m : Site) (law : Lawful m) (G : ClassKind) (el : C → 
               (under_trans k.order _ _ _ u (k.least _)))
 
       -- the lane leads to a pair that has no place yet
-      pub progress_added : (l : Lane) (v : Pair C K) → m.lane x.point i ≡ Some l → Within m k aim cable l.to (onward k x.cost l) → n < length xs →
+      pub progress_added : {l : Lane} (v : Pair C K) → m.lane x.point i ≡ Some l → Within m k aim cable l.to (onward k x.cost l) → n < length xs →
           ((a : ℕ) (z : Pair C K) → a < n → Stands xs a z → z.point ≡ l.to → el z.class ≡ G.mul (el x.class) (crossed G l.crossing) → ⊥) →
           v.point ≡ l.to → el v.class ≡ G.mul (el x.class) (crossed G l.crossing) → v.cost ≡ onward k x.cost l → v.link ≡ Some s →
           Progress m G el k reel aim cable (set xs n v) s (s + 1) (i + 1) (n + 1)
-      progress_added l v e w room absent vp vc vk vl =
+      progress_added {l} v e w room absent vp vc vk vl =
           written l n (n + 1) v e w chart.found (omega arith) (omega arith) (omega arith) (λ a lt ne. omega arith) vp vc vk vl
           (λ a z ne la. absent a z la) (λ z lt. absurd (never lt)) not_reel
         where
@@ -297,18 +297,18 @@ module _ {C K : Type 0} (m : Site) (law : Lawful m) (G : ClassKind) (el : C → 
 
           not_reel : Is m G el k reel aim cable v reel G.unit → ⊥
           not_reel is =
-              let (b, (a, z, le, lt, ata, f, f', d), u) = reel_place xs s (s + 1) i n s x chart (omega (arith, chart.found)) at in
+              let (b, (a, z, le, lt, ata, f, f', d), u) = reel_place m law G el k reel aim cable xs s (s + 1) i n s x chart (omega (arith, chart.found)) at in
               absent a z lt ata (f ∙ sym is.0 ∙ vp) (f' ∙ sym is.1 ∙ vc)
 
       -- where there is no place for such a pair, there are more pairs than places
-      pub progress_crowded : (l : Lane) → m.lane x.point i ≡ Some l → Within m k aim cable l.to (onward k x.cost l) → n ≡ length xs →
+      pub progress_crowded : {l : Lane} → m.lane x.point i ≡ Some l → Within m k aim cable l.to (onward k x.cost l) → n ≡ length xs →
           ((a : ℕ) (z : Pair C K) → a < n → Stands xs a z → z.point ≡ l.to → el z.class ≡ G.mul (el x.class) (crossed G l.crossing) → ⊥) →
           Crowded {C = C} m G el k reel aim cable (length xs)
-      progress_crowded l e w full absent =
+      progress_crowded {l} e w full absent =
           crowded m G el k reel aim cable xs l.to (G.mul (el x.class) (crossed G l.crossing))
           (subst (λ (z : ℕ). Distinct G el xs z) full chart.distinct)
           (λ a z lt ata.
-          found_reach m law G k reel aim cable _ _ i _ chart.searched z.point (el z.class) z.cost
+          found_reach law chart.searched z.point (el z.class) z.cost
           (found_place G el xs s (s + 1) n a z _ _ (below a lt) ata refl refl))
           (progress_lane_reach l e w)
           (λ has. let (a, z, lt, ata, is) = at_holds m G el k reel aim cable xs _ _ has in absent a z (below a lt) ata is.0 is.1)
@@ -319,30 +319,30 @@ module _ {C K : Type 0} (m : Site) (law : Lawful m) (G : ClassKind) (el : C → 
           progress_lane_reach : (l : Lane) → m.lane x.point i ≡ Some l → Within m k aim cable l.to (onward k x.cost l) →
               Reach m G k reel aim cable l.to (G.mul (el x.class) (crossed G l.crossing))
           progress_lane_reach l e w =
-              lane_reach m law G k reel aim cable _ _ i _ chart.searched x.point (el x.class) x.cost i l
+              lane_reach law chart.searched x.point (el x.class) x.cost i l
               (inr (inl (span_here G el xs s (s + 1) s x (omega arith) (omega arith) at))) e w
 
       -- where the class is not held, it is one of the reach
-      pub progress_unheld : (l : Lane) → m.lane x.point i ≡ Some l → Within m k aim cable l.to (onward k x.cost l) →
+      pub progress_unheld : {l : Lane} → m.lane x.point i ≡ Some l → Within m k aim cable l.to (onward k x.cost l) →
           (G.Held (G.mul (el x.class) (crossed G l.crossing)) → ⊥) → Unheld {C = C} m G el k reel aim cable
-      progress_unheld l e w not = (
+      progress_unheld {l} e w not = (
         l.to,
         G.mul (el x.class) (crossed G l.crossing),
-        lane_reach m law G k reel aim cable _ _ i _ chart.searched x.point (el x.class) x.cost i l
+        lane_reach law chart.searched x.point (el x.class) x.cost i l
             (inr (inl (span_here G el xs s (s + 1) s x (omega arith) (omega arith) at))) e w,
         not,
       )
 
   -- all lanes of the pair at hand are followed
-  pub progress_closed : (xs : List (Pair C K)) (s i n j : ℕ) → Progress m G el k reel aim cable xs s (s + 1) i n → m.limit ≤ i → Progress m G el k reel aim cable xs (s + 1) (s + 1) j n
-  progress_closed xs s i n j chart all =
+  pub progress_closed : {xs : List (Pair C K)} {s i n : ℕ} (j : ℕ) → Progress m G el k reel aim cable xs s (s + 1) i n → m.limit ≤ i → Progress m G el k reel aim cable xs (s + 1) (s + 1) j n
+  progress_closed {xs} {s} {i} {n} j chart all =
       record {
         settled = omega arith;
         found = chart.found;
         room = chart.room;
         searched =
-            resaid m law G k reel aim cable _ _ j _
-            (finished m law G k reel aim cable _ _ i _ chart.searched (Span G el xs 0 (s + 1)) j all parts whole)
+            resaid law
+            (finished law chart.searched (Span G el xs 0 (s + 1)) j all parts whole)
             (Span G el xs 0 (s + 1)) (Span G el xs (s + 1) (s + 1)) (Span G el xs (s + 1) n)
             (λ q h b a. a) (λ q h b a. a) (span_none G el xs (s + 1)) (λ q h b a. absurd a) (λ q h b a. a) (λ q h b a. a);
         distinct = chart.distinct;
@@ -357,27 +357,27 @@ module _ {C K : Type 0} (m : Site) (law : Lawful m) (G : ClassKind) (el : C → 
       whole q h b (inr (a, z, le, lt, at, f, f', d)) = (a, z, omega arith, lt, at, f, f', d)
 
   -- nothing at hand
-  module _ (xs : List (Pair C K)) (s i n : ℕ) (chart : Progress m G el k reel aim cable xs s s i n) where
+  module _ {xs : List (Pair C K)} {s i n : ℕ} (chart : Progress m G el k reel aim cable xs s s i n) where
     idle : Searched m G k reel aim cable (Span G el xs 0 s) Nothing i (Span G el xs s n)
     idle =
-        resaid m law G k reel aim cable _ _ i _ chart.searched (Span G el xs 0 s) Nothing (Span G el xs s n)
+        resaid law chart.searched (Span G el xs 0 s) Nothing (Span G el xs s n)
         (λ q h b a. a) (λ q h b a. a) (λ q h b a. absurd a) (span_none G el xs s) (λ q h b a. a) (λ q h b a. a)
 
     -- the least open pair, at the place j, is swapped to the place s
-    pub progress_taken : (ys : List (Pair C K)) (j : ℕ) (x : Pair C K) → s ≤ j → j < n → Stands xs j x →
+    pub progress_taken : (ys : List (Pair C K)) (j : ℕ) {x : Pair C K} → s ≤ j → j < n → Stands xs j x →
         ((e : ℕ) (y : Pair C K) → s ≤ e → e < n → Stands xs e y → NoLater m k aim x.point x.cost y.point y.cost) →
         length ys ≡ length xs →
         ((d : Pair C K) → get_or ys s d ≡ get_or xs j d) → ((d : Pair C K) → get_or ys j d ≡ get_or xs s d) →
         ((e : ℕ) (d : Pair C K) → (e ≡ s → ⊥) → (e ≡ j → ⊥) → get_or ys e d ≡ get_or xs e d) →
         Progress m G el k reel aim cable ys s (s + 1) 0 n
-    progress_taken ys j x sj jn at least len first second others =
+    progress_taken ys j {x} sj jn at least len first second others =
         record {
           settled = omega arith;
           found = omega arith;
           room = subst (λ (z : ℕ). n ≤ z) (sym len) chart.room;
           searched =
-              resaid m law G k reel aim cable _ _ 0 _
-              (taken m law G k reel aim cable (Span G el xs 0 s) i (Span G el xs s n) idle x.point (el x.class) x.cost
+              resaid law
+              (taken law idle x.point (el x.class) x.cost
               (span_here G el xs s n j x sj jn at) least' (Span G el ys s (s + 1)) (Span G el ys (s + 1) n) (span_one G el ys s x at_x) less all gone)
               (Span G el ys 0 s) (Span G el ys s (s + 1)) (Span G el ys (s + 1) n)
               (span_same G el ys xs 0 s (λ e y le lt a. from e e y (low e lt) a))
@@ -453,6 +453,7 @@ module _ {C K : Type 0} (m : Site) (law : Lawful m) (G : ClassKind) (el : C → 
             let (a', ma) = moved s j a in
             relinked a a' y ma (chart.linked a' y (below a a' ma la) (from a a' y ma ata))
 
+module _ {C K : Type 0} (m : Site) (law : Lawful m) (G : ClassKind) (el : C → G.Element) (k : CostKind K) (reel : ℕ) (aim : Option ℕ) (cable : ℕ) where
   -- at the start the reel with the unit is open, if it is within the limit
   pub progress_started : (xs : List (Pair C K)) (v : Pair C K) → reel < m.points → Within m k aim cable reel k.zero → 0 < length xs → Stands xs 0 v →
       v.point ≡ reel → el v.class ≡ G.unit → v.cost ≡ k.zero → v.link ≡ None → Progress m G el k reel aim cable xs 0 0 0 1
@@ -462,7 +463,7 @@ module _ {C K : Type 0} (m : Site) (law : Lawful m) (G : ClassKind) (el : C → 
         found = omega arith;
         room = some;
         searched =
-            resaid m law G k reel aim cable _ _ 0 _ (started m law G k reel aim cable (Span G el xs 0 1) here (λ q h b a. (only q h b a, w)) (λ _. (0, v, omega arith, omega arith, at, vp, vc, vk)))
+            resaid law (started m law G k reel aim cable (Span G el xs 0 1) here (λ q h b a. (only q h b a, w)) (λ _. (0, v, omega arith, omega arith, at, vp, vc, vk)))
             (Span G el xs 0 0) (Span G el xs 0 0) (Span G el xs 0 1)
             (span_none G el xs 0) (λ q h b a. absurd a) (span_none G el xs 0) (λ q h b a. absurd a) (λ q h b a. a) (λ q h b a. a);
         distinct = λ i j x y hi hj _ _ _ _. omega arith;
@@ -480,42 +481,15 @@ module _ {C K : Type 0} (m : Site) (law : Lawful m) (G : ClassKind) (el : C → 
       linked : (j : ℕ) (x : Pair C K) → j < 1 → Stands xs j x → Links m G el k reel aim cable xs 0 j x
       linked j x lt atx = subst (λ (u : Pair C K). Links m G el k reel aim cable xs 0 j u) (sym (is_v j x lt atx)) (inl ((vp, vc), vl))
 
-  -- if it is not, nothing is
-  pub progress_nothing : (xs : List (Pair C K)) → reel < m.points → (Within m k aim cable reel k.zero → ⊥) → Progress m G el k reel aim cable xs 0 0 0 0
-  progress_nothing xs here far =
-      record {
-        settled = omega arith;
-        found = omega arith;
-        room = omega arith;
-        searched =
-            resaid m law G k reel aim cable _ _ 0 _ (started m law G k reel aim cable Nothing here (λ q h b a. absurd a) far)
-            (Span G el xs 0 0) (Span G el xs 0 0) (Span G el xs 0 0)
-            (span_none G el xs 0) (λ q h b a. absurd a) (span_none G el xs 0) (λ q h b a. absurd a) (span_none G el xs 0) (λ q h b a. absurd a);
-        distinct = λ i j x y hi hj _ _ _ _. omega arith;
-        linked = λ j x lt _. absurd (never j lt);
-      }
-    where
-      never : (j : ℕ) → j < 0 → ⊥
-      never j lt = omega arith
-
-  -- if it is, and there is no place at all
-  pub progress_no_room : (xs : List (Pair C K)) → reel < m.points → Within m k aim cable reel k.zero → length xs ≡ 0 → Crowded {C = C} m G el k reel aim cable (length xs)
-  progress_no_room xs here w none =
-      crowded m G el k reel aim cable xs reel G.unit (λ i j x y hi hj _ _ _ _. absurd (never i hi)) (λ i x hi _. absurd (never i hi))
-      (k.zero, runs_at_reel m law.lanes G k reel here, w)
-      (λ has. let (a, z, lt, ata, is) = at_holds m G el k reel aim cable xs _ _ has in never a lt)
-    where
-      never : (i : ℕ) → i < length xs → ⊥
-      never i lt = omega arith
-
+module _ {C K : Type 0} {m : Site} (law : Lawful m) {G : ClassKind} {el : C → G.Element} {k : CostKind K} {reel : ℕ} {aim : Option ℕ} {cable : ℕ} where
   -- with nothing open the chart is finished
-  module _ (xs : List (Pair C K)) (i n : ℕ) (chart : Progress m G el k reel aim cable xs n n i n) where
+  module _ {xs : List (Pair C K)} {i n : ℕ} (chart : Progress m G el k reel aim cable xs n n i n) where
     long : length (take n xs) ≡ n
     long = length-take-le n xs chart.room
 
     pub progress_complete : (p : ℕ) (g : G.Element) → Reach m G k reel aim cable p g → Holds m G el k reel aim cable (take n xs) p g
     progress_complete p g r =
-        let (c, (e, y, le, lt, at, f, f', d)) = done m law G k reel aim cable _ _ i (idle xs n i n chart) (span_none G el xs n) p g r in
+        let (c, (e, y, le, lt, at, f, f', d)) = done m law G k reel aim cable _ _ i (idle law chart) (span_none G el xs n) p g r in
         holds_at m G el k reel aim cable (take n xs) e y p g (subst (λ (z : ℕ). e < z) (sym long) lt) (stands_take xs n e y lt at) (f, f')
 
     pub progress_finished : Finished m G el k reel aim cable (take n xs)
@@ -533,7 +507,7 @@ module _ {C K : Type 0} (m : Site) (law : Lawful m) (G : ClassKind) (el : C → 
             Reach m G k reel aim cable y.point (el y.class) × Cheapest m G k reel y.point (el y.class) y.cost
         each e y lt at =
             let s = span_here G el xs 0 n e y (omega arith) (short e lt) (stands_untake xs n e y (short e lt) at) in (
-              found_reach m law G k reel aim cable _ _ i _ chart.searched y.point (el y.class) y.cost (inl s),
+              found_reach law chart.searched y.point (el y.class) y.cost (inl s),
               chart.searched.cheapest y.point (el y.class) y.cost (inl s),
             )
 

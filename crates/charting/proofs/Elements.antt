@@ -1,9 +1,8 @@
 -- The elements of a list and one more, and an element taken out of a list.
-use Rattle.std.proofs.Common.{◌≡◌, ℕ, zero, suc, ◌<◌, eqb, ◌⊎◌, List, [], ◌∷◌, length, get_or, set, MatchBool, sym, refl, ap, ◌∙◌, subst, inl, inr, suc-le-suc, arith}
+use Rattle.std.proofs.Common.{◌≡◌, ℕ, zero, suc, ◌<◌, ◌⊎◌, List, [], ◌∷◌, length, get_or, set, sym, refl, ap, ◌∙◌, subst, inl, inr, suc-le-suc, arith}
 use Rattle.std.specs.List.Sorted.{IsPermutation}
 use Rattle.std.specs.List.{ContainsAt as Has}
 use Rattle.std.proofs.lemmas.List.Sorted.{IsPermutation-refl, IsPermutation-cons, IsPermutation-trans, IsPermutation-swap}
-use Rattle.std.proofs.lemmas.Bool.{cases_eq, eq-eqb, ne_eqb}
 use Rattle.charts.specs.Charts.{Stands}
 use Rattle.charts.proofs.Stands.{stands_some}
 
@@ -36,14 +35,6 @@ module _ {X : Type 0} where
         IsPermutation-trans (w ∷ ws) (w ∷ y ∷ rest) (y ∷ w ∷ rest) (IsPermutation-cons w ws (y ∷ rest) a) (swap_first w y rest),
         IsPermutation-trans (w ∷ set ws p x) (w ∷ x ∷ rest) (x ∷ w ∷ rest) (IsPermutation-cons w (set ws p x) (x ∷ rest) b) (swap_first w x rest),
       )
-
--- a fact for each answer of a test
-pub when_eqb : (a b : ℕ) {P Q : Type 0} → (a ≡ b → P) → ((a ≡ b → ⊥) → Q) → MatchBool (eqb a b) P Q
-when_eqb a b {P} {Q} f h =
-    elim (cases_eq a b) [
-      | inl e ↦ subst (λ t. MatchBool t P Q) (sym (eq-eqb a b e)) (f e)
-      | inr ne ↦ subst (λ t. MatchBool t P Q) (sym (ne_eqb a b ne)) (h ne)
-    ]
 
 pub nil_from_length : {X : Type 0} (xs : List X) → length xs ≡ 0 → xs ≡ []
 nil_from_length [] e = refl

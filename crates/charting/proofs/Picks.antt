@@ -109,8 +109,3 @@ module _ {K : Type 0} (m : Site) (law : Lawful m) (G : ClassKind) (k : CostKind 
           | inl s ↦ (s.0, s.1)
           | inr s ↦ absurd (none s.0 s.1 s.2 s.3)
         ]
-
-    -- so if all found pairs are held, every class of the reach is
-    pub done_held : ((p : ℕ) (g : G.Element) (c : K) → O p g c → ⊥) → ((p : ℕ) (g : G.Element) (c : K) → S p g c → G.Held g) →
-        (p : ℕ) (g : G.Element) → Reach m G k reel aim cable p g → G.Held g
-    done_held none held p g r = let (c, s) = done none p g r in held p g c s

@@ -3,7 +3,6 @@ use Rattle.std.proofs.Common.{◌≡◌, ℕ, zero, suc, ◌+◌, ◌-◌, ◌*�
 use Rattle.std.specs.List.{ContainsAt as Has, AllByRecursion}
 use Rattle.std.proofs.lemmas.List.Sorted.{IsPermutation-sym, IsPermutation-trans}
 use Rattle.std.proofs.ByRecursion.{all-has}
-use Rattle.kinds.specs.declared.refusal.Refusal.{Refusal}
 use Rattle.kinds.specs.declared.lane.Lane.{Lane}
 use Rattle.kinds.specs.declared.class.Class.{Ghosts as Classes}
 use Rattle.kinds.specs.declared.cost.Cost.{Ghosts as Costs}
@@ -33,22 +32,17 @@ use Rattle.charting.specs.Steps.{Swaps, Adds, Lowers}
 use Rattle.steps.specs.Leads.{Leads}
 use Rattle.charting.specs.Charts.{TooLarge}
 use Rattle.charting.specs.declared.memory.Search.{Search}
-use Rattle.charting.specs.Searches.{Sized, Searching, Follows, Complete, Lent, Refused}
+use Rattle.charting.specs.Searches.{Sized, Searching, Follows, Complete, Lent}
 use Rattle.kinds.proofs.Orders.{under_of_not_less}
 use Rattle.charting.proofs.Elements.{taken_out, nil_from_length, stands_got}
 use Rattle.charting.proofs.Laters.{no_later_from_at_most, at_most_from_cheaper}
-use Rattle.charting.proofs.Advances.{progress_taken, progress_open, progress_no_lane, progress_too_far, progress_no_cheaper, progress_lowered, progress_added, progress_crowded, progress_unheld, progress_closed, progress_started, progress_nothing, progress_finished, progress_exact}
+use Rattle.charting.proofs.Advances.{progress_taken, progress_open, progress_no_lane, progress_too_far, progress_no_cheaper, progress_lowered, progress_added, progress_crowded, progress_unheld, progress_closed, progress_started, progress_finished, progress_exact}
 use Rattle.charting.proofs.Waits.{taken_serves, waits_taken, waits_lowered, waits_added, waits_none}
 use Rattle.charting.proofs.Indexing.{one_name, key_of, of_key, indexed_exchanged, indexed_next, key_next, absent_next, indexed_again}
 
 -- a search that has the task and memory of one that has those of a third
 pub lent_on : {M C K : Type 0} {x y z : Search M C K} → Lent x y → Lent y z → Lent x z
 lent_on l l' = record { task = l'.task ∙ l.task; held = l'.held ∙ l.held; long = l'.long ∙ l.long; queued = l'.queued ∙ l.queued }
-
--- what is too large for the one is so for the other
-pub refused_back : {M C K : Type 0} (site : M → Site) (b : Classes C) (c : Costs K) {x y : Search M C K} {e : Refusal} → Lent x y → Refused site b c y e → Refused site b c x e
-refused_back site b c {x} {y} l (e, large) =
-    (e, subst (TooLarge (site x.task.now.map.now) b c x.task.now.asked) l.long (subst (λ t. TooLarge (site t.now.map.now) b c t.now.asked (length y.places.now)) l.task large))
 
 -- a number that names a lane is low
 pub next_low : {m : Site} (lanes : LawfulLanes m) {p i k : ℕ} → Next m p i (Some k) → (i ≤ k) × (k < m.limit) × (k < 16384)
@@ -95,7 +89,7 @@ module _ {C K : Type 0} {m : Site} (lanes : LawfulLanes m) (estimates : LawfulEs
             queued = len ∙ h.sized.queued ∙ sym swaps.long;
             slotted = length-set (set slots x.slot (s + 1)) u (j + 1) ∙ length-set slots x.slot (s + 1) ∙ h.sized.slotted ∙ ap (λ a. 2 * a) (sym swaps.long);
           };
-          progress = progress_taken m (law lanes estimates) b.kind b.element c.costs q.reel q.aim q.cable xs s 0 n h.progress ys j y low high at least swaps.long swaps.first swaps.second swaps.others;
+          progress = progress_taken (law lanes estimates) h.progress ys j low high at least swaps.long swaps.first swaps.second swaps.others;
           indexed = indexed_exchanged b xs slots n h.progress.room h.indexed ys x.slot u j s names names' swaps.long swaps.first swaps.second (λ i d a a'. swaps.others i d a a');
           covers = covers_swapped slots x.slot u j s n names names' h.covers;
           waits = subst (λ (w : List (Open K)). Waits m c.costs q.aim ys (rewritten slots x.slot u j s) w (s + 1) n) (sym e)
@@ -164,7 +158,7 @@ module _ {C K : Type 0} {m : Site} (lanes : LawfulLanes m) (estimates : LawfulEs
     -- the pair is new, and no place is left
     pub met_crowded : Absent (pair_at b (take n xs)) slots (pair_of b v) → length xs ≤ n → TooLarge m b c q (length xs)
     met_crowded absent full =
-        inl (progress_crowded m (law lanes estimates) b.kind b.element c.costs q.reel q.aim q.cable xs s i n f.searching.progress f.from f.stands f.lane f.comes.lane f.comes.within
+        inl (progress_crowded (law lanes estimates) f.searching.progress f.stands f.comes.lane f.comes.within
         (omega (arith, f.searching.progress.room)) (met_nowhere absent))
 
     -- the pair is new, and is added
@@ -178,7 +172,7 @@ module _ {C K : Type 0} {m : Site} (lanes : LawfulLanes m) (estimates : LawfulEs
             queued = size ∙ f.searching.sized.queued ∙ sym long;
             slotted = inserts_length ((pair_keys b).hash (pair_of b v)) n slots slots' adds.slot adds.inserts ∙ f.searching.sized.slotted ∙ ap (λ a. 2 * a) (sym long);
           };
-          progress = progress_added m (law lanes estimates) b.kind b.element c.costs q.reel q.aim q.cable xs s i n f.searching.progress f.from f.stands f.lane v f.comes.lane f.comes.within room
+          progress = progress_added (law lanes estimates) f.searching.progress f.stands v f.comes.lane f.comes.within room
               (met_nowhere absent) f.comes.point f.comes.class f.comes.cost f.link;
           indexed = adds.keeps (pair_at b (take (n + 1) (set xs n v))) (indexed_next b xs slots n f.searching.progress.room f.searching.indexed v room)
               (key_next b xs slots n f.searching.progress.room f.searching.indexed v room) (absent_next b xs slots n f.searching.progress.room f.searching.indexed v room absent);
@@ -222,7 +216,7 @@ module _ {C K : Type 0} {m : Site} (lanes : LawfulLanes m) (estimates : LawfulEs
         pub met_no_cheaper : (c.costs.order.cmp v.cost y.cost ≡ Less → ⊥) → Searching m b c q xs queue slots s (s + 1) (i + 1) n
         met_no_cheaper not =
             searching_on f.searching
-            (progress_no_cheaper m (law lanes estimates) b.kind b.element c.costs q.reel q.aim q.cable xs s i n f.searching.progress f.from f.stands f.lane j y f.comes.lane met_place.0 at
+            (progress_no_cheaper (law lanes estimates) f.searching.progress f.stands j f.comes.lane met_place.0 at
             (met_place.1 ∙ f.comes.point) (met_place.2 ∙ f.comes.class) (under_of_not_less c.costs.order (onward c.costs f.from.cost f.lane) y.cost (λ e. not (ap (λ k. c.costs.order.cmp k y.cost) f.comes.cost ∙ e))))
 
         module _ (less : c.costs.order.cmp v.cost y.cost ≡ Less) where
@@ -231,7 +225,7 @@ module _ {C K : Type 0} {m : Site} (lanes : LawfulLanes m) (estimates : LawfulEs
 
           -- it is open, since settled pairs are cheapest
           met_open : s + 1 ≤ j
-          met_open = progress_open m (law lanes estimates) b.kind b.element c.costs q.reel q.aim q.cable xs s i n f.searching.progress f.from f.stands f.lane j y f.comes.lane at
+          met_open = progress_open (law lanes estimates) f.searching.progress f.stands j f.comes.lane at
               (met_place.1 ∙ f.comes.point) (met_place.2 ∙ f.comes.class) less'
 
           -- so it waits
@@ -260,7 +254,7 @@ module _ {C K : Type 0} {m : Site} (lanes : LawfulLanes m) (estimates : LawfulEs
               queued = size ∙ f.searching.sized.queued ∙ sym long;
               slotted = f.searching.sized.slotted ∙ ap (λ a. 2 * a) (sym long);
             };
-            progress = progress_lowered m (law lanes estimates) b.kind b.element c.costs q.reel q.aim q.cable xs s i n f.searching.progress f.from f.stands f.lane j y v f.comes.lane f.comes.within met_place.0 at
+            progress = progress_lowered (law lanes estimates) f.searching.progress f.stands j v f.comes.lane f.comes.within met_place.0 at
                 (met_place.1 ∙ f.comes.point) (met_place.2 ∙ f.comes.class) less' f.comes.point f.comes.class f.comes.cost f.link;
             indexed = indexed_again b xs slots n f.searching.progress.room f.searching.indexed j y v met_place.0 at (λ k. (sym met_place.1 k, sym met_place.2 k));
             covers = f.searching.covers;
@@ -287,17 +281,17 @@ module _ {C K : Type 0} {m : Site} (lanes : LawfulLanes m) (estimates : LawfulEs
     module _ {x : Pair C K} (at : Stands xs s x) where
       pub searching_no_lane : m.lane x.point i ≡ None → Searching m b c q xs queue slots s (s + 1) (i + 1) n
       searching_no_lane e =
-          searching_on h (progress_no_lane m (law lanes estimates) b.kind b.element c.costs q.reel q.aim q.cable xs s i n h.progress x at e)
+          searching_on h (progress_no_lane (law lanes estimates) h.progress at e)
 
       module _ {l : Lane} (e : m.lane x.point i ≡ Some l) {cost : K} (is : cost ≡ onward c.costs x.cost l) where
         pub searching_too_far : (Within m c.costs q.aim q.cable l.to cost → ⊥) → Searching m b c q xs queue slots s (s + 1) (i + 1) n
         searching_too_far far =
             searching_on h
-            (progress_too_far m (law lanes estimates) b.kind b.element c.costs q.reel q.aim q.cable xs s i n h.progress x at l e (λ w. far (subst (Within m c.costs q.aim q.cable l.to) (sym is) w)))
+            (progress_too_far (law lanes estimates) h.progress at e (λ w. far (subst (Within m c.costs q.aim q.cable l.to) (sym is) w)))
 
         pub searching_unheld : Within m c.costs q.aim q.cable l.to cost → (b.kind.Held (b.kind.mul (b.element x.class) (crossed b.kind l.crossing)) → ⊥) → TooLarge m b c q (length xs)
         searching_unheld w not =
-            inr (progress_unheld m (law lanes estimates) b.kind b.element c.costs q.reel q.aim q.cable xs s i n h.progress x at l e (subst (Within m c.costs q.aim q.cable l.to) is w) not)
+            inr (progress_unheld (law lanes estimates) h.progress at e (subst (Within m c.costs q.aim q.cable l.to) is w) not)
 
         pub searching_follows : Within m c.costs q.aim q.cable l.to cost → {v : Pair C K} → Leads b x l s cost (Some v) → Follows m b c q xs queue slots s i n v
         searching_follows w {v} (vp, vc, vk, vl) = record {
@@ -320,14 +314,14 @@ module _ {C K : Type 0} {m : Site} (lanes : LawfulLanes m) (estimates : LawfulEs
         skip zero none = subst (λ a. Progress m b.kind b.element c.costs q.reel q.aim q.cable xs s (s + 1) a n) (sym (add-zero i)) h.progress
         skip (suc d) none =
             subst (λ a. Progress m b.kind b.element c.costs q.reel q.aim q.cable xs s (s + 1) a n) (sym (next i d))
-            (progress_no_lane m (law lanes estimates) b.kind b.element c.costs q.reel q.aim q.cable xs s (i + d) n (skip d (λ j le lt. none j le (omega arith))) x at (none (i + d) (omega arith) (omega arith)))
+            (progress_no_lane (law lanes estimates) (skip d (λ j le lt. none j le (omega arith))) at (none (i + d) (omega arith) (omega arith)))
 
     -- no number from i on names a lane: the pair at hand is done with
     pub searching_closed : {x : Pair C K} → Stands xs s x → ((j : ℕ) → i ≤ j → m.lane x.point j ≡ None) → Searching m b c q xs queue slots (s + 1) (s + 1) 0 n
     searching_closed {x} at none =
         let past = searching_skips at m.limit (λ j le lt. none j le) in
         searching_on h
-        (progress_closed m (law lanes estimates) b.kind b.element c.costs q.reel q.aim q.cable xs s (i + m.limit) n 0 past.progress (omega arith))
+        (progress_closed (law lanes estimates) 0 past.progress (omega arith))
 
     -- the next number that names a lane, and when none does
     pub searching_to : {x : Pair C K} → Stands xs s x → {k : ℕ} → Next m x.point i (Some k) → Searching m b c q xs queue slots s (s + 1) k n
@@ -344,8 +338,8 @@ module _ {C K : Type 0} {m : Site} (lanes : LawfulLanes m) (estimates : LawfulEs
   pub complete : (held : (x : C) → b.kind.Held (b.element x)) {xs : List (Pair C K)} {queue : Queue (Open K)} {slots : List ℕ} {s n : ℕ} → Searching m b c q xs queue slots s s 0 n → s ≡ n → Complete m b c q xs n
   complete held {xs} {queue} {slots} {s} {n} h e = record {
     room = h.progress.room;
-    finished = progress_finished m (law lanes estimates) b.kind b.element c.costs q.reel q.aim q.cable xs 0 n p;
-    exact = progress_exact m (law lanes estimates) b.kind b.element c.costs q.reel q.aim q.cable xs 0 n p held;
+    finished = progress_finished (law lanes estimates) p;
+    exact = progress_exact (law lanes estimates) p held;
   }
     where
       p : Progress m b.kind b.element c.costs q.reel q.aim q.cable xs n n 0 n
@@ -353,16 +347,6 @@ module _ {C K : Type 0} {m : Site} (lanes : LawfulLanes m) (estimates : LawfulEs
 
   -- at the start no pair is found
   module _ {xs : List (Pair C K)} {queue : Queue (Open K)} {slots : List ℕ} (here : q.reel < m.points) (sized : Sized xs queue slots) (idle : length (waiting queue) ≡ 0) (vacant : slots ≡ replicate (length slots) 0) where
-    pub searching_nothing : (Within m c.costs q.aim q.cable q.reel c.costs.zero → ⊥) → Searching m b c q xs queue slots 0 0 0 0
-    searching_nothing far = record {
-      sized = sized;
-      progress = progress_nothing m (law lanes estimates) b.kind b.element c.costs q.reel q.aim q.cable xs here far;
-      indexed = no_keys b xs slots vacant;
-      covers = covers_none slots;
-      waits = nothing_waits m c q xs queue slots idle;
-      kept = nothing_kept c queue idle;
-    }
-
     pub searching_started : Within m c.costs q.aim q.cable q.reel c.costs.zero → 0 < length xs → {v : Pair C K} → v.point ≡ q.reel → b.element v.class ≡ b.kind.unit → v.cost ≡ c.costs.zero → v.link ≡ None →
         {ys : List (Pair C K)} (queue' : Queue (Open K)) {slots' : List ℕ} → length (places queue') ≡ length (places queue) → {bound : K} → bound ≡ c.costs.plus v.cost (tail m c.costs q.aim v.point) →
         Adds b c 0 v bound xs slots (waiting queue) ys slots' (waiting queue') → Searching m b c q ys queue' slots' 0 0 0 1

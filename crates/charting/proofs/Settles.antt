@@ -58,7 +58,8 @@ module _ {K : Type 0} (m : Site) (law : Lawful m) (G : ClassKind) (k : CostKind 
       within p g c (inr (inl a)) = absurd a
       within p g c (inr (inr o)) = by_only (λ q h b. Within m k aim cable q b) reel G.unit k.zero p g c (only p g c o).0 (only p g c o).1
 
-  module _ (S X : Pairs G.Element K) (i : ℕ) (O : Pairs G.Element K) (inv : Searched m G k reel aim cable S X i O) where
+module _ {K : Type 0} {m : Site} (law : Lawful m) {G : ClassKind} {k : CostKind K} {reel : ℕ} {aim : Option ℕ} {cable : ℕ} where
+  module _ {S X : Pairs G.Element K} {i : ℕ} {O : Pairs G.Element K} (inv : Searched m G k reel aim cable S X i O) where
     pub found_runs : (p : ℕ) (g : G.Element) (c : K) → Known S X O p g c → RunsAt m G k reel p g c
     found_runs p g c (inl a) = (inv.cheapest p g c (inl a)).0
     found_runs p g c (inr (inl a)) = (inv.cheapest p g c (inr a)).0
@@ -104,7 +105,7 @@ module _ {K : Type 0} (m : Site) (law : Lawful m) (G : ClassKind) (k : CostKind 
         found p g c (inr (inr a)) = inr (inr (o p g c a))
 
         carry : (p : ℕ) (g : G.Element) (c : K) → NoDearer k (Known S X O) p g c → NoDearer k (Known S' X' O') p g c
-        carry = no_dearer_found S X O S' X' O' (λ q h b a. inl (s' q h b a)) (λ q h b a. inr (x' q h b a)) (λ q h b a. (b, inr (inr (o' q h b a)), under_refl k.order b))
+        carry = no_dearer_found m law G k reel aim cable S X O S' X' O' (λ q h b a. inl (s' q h b a)) (λ q h b a. inr (x' q h b a)) (λ q h b a. (b, inr (inr (o' q h b a)), under_refl k.order b))
 
     -- all lanes followed: the pair at hand is closed too
     pub finished : (S' : Pairs G.Element K) (j : ℕ) → m.limit ≤ i →
@@ -132,7 +133,7 @@ module _ {K : Type 0} (m : Site) (law : Lawful m) (G : ClassKind) (k : CostKind 
         found p g c (inr (inr a)) = inr (inr a)
 
         carry : (p : ℕ) (g : G.Element) (c : K) → NoDearer k (Known S X O) p g c → NoDearer k (Known S' Nothing O) p g c
-        carry = no_dearer_found S X O S' Nothing O (λ q h b a. inl (s' q h b (inl a))) (λ q h b a. inl (s' q h b (inr a))) (λ q h b a. (b, inr (inr a), under_refl k.order b))
+        carry = no_dearer_found m law G k reel aim cable S X O S' Nothing O (λ q h b a. inl (s' q h b (inl a))) (λ q h b a. inl (s' q h b (inr a))) (λ q h b a. (b, inr (inr a), under_refl k.order b))
 
         closed : (p : ℕ) (g : G.Element) (c : K) (n : ℕ) (l : Lane) → S p g c ⊎ X p g c → m.lane p n ≡ Some l → Within m k aim cable l.to (onward k c l) →
             NoDearer k (Known S X O) l.to (G.mul g (crossed G l.crossing)) (onward k c l)
@@ -167,7 +168,7 @@ module _ {K : Type 0} (m : Site) (law : Lawful m) (G : ClassKind) (k : CostKind 
 
         carry : (p : ℕ) (g : G.Element) (c : K) → NoDearer k (Known S X O) p g c → NoDearer k (Known S X O') p g c
         carry =
-            no_dearer_found S X O S X O' (λ q h b a. inl a) (λ q h b a. inr a)
+            no_dearer_found m law G k reel aim cable S X O S X O' (λ q h b a. inl a) (λ q h b a. inr a)
             (λ q h b a. let (d, o, u) = kept q h b a in (d, inr (inr o), u))
 
     -- the same with nothing new
@@ -241,15 +242,16 @@ module _ {K : Type 0} (m : Site) (law : Lawful m) (G : ClassKind) (k : CostKind 
                 | inr r ↦ free b (subst (λ (v : ℕ). S v y b ⊎ X v y b) r.0 (subst (λ (v : G.Element). S q v b ⊎ X q v b) r.1 s))
               ]
 
+module _ {K : Type 0} {m : Site} (law : Lawful m) {G : ClassKind} {k : CostKind K} {reel : ℕ} {aim : Option ℕ} {cable : ℕ} where
   -- the least open pair is taken up
-  pub taken : (S : Pairs G.Element K) (j : ℕ) (O : Pairs G.Element K) → Searched m G k reel aim cable S Nothing j O →
+  pub taken : {S : Pairs G.Element K} {j : ℕ} {O : Pairs G.Element K} → Searched m G k reel aim cable S Nothing j O →
       (p : ℕ) (g : G.Element) (c : K) → O p g c → Soonest m k aim O p c → (X O' : Pairs G.Element K) →
       ((q : ℕ) (h : G.Element) (b : K) → X q h b → Only p g c q h b) →
       ((q : ℕ) (h : G.Element) (b : K) → O' q h b → O q h b) →
       ((q : ℕ) (h : G.Element) (b : K) → O q h b → X q h b ⊎ O' q h b) →
       ((b : K) → O' p g b → ⊥) →
       Searched m G k reel aim cable S X 0 O'
-  taken S j O inv p g c o least X O' only less all gone =
+  taken {S} {j} {O} inv p g c o least X O' only less all gone =
       record {
         cheapest = cheapest;
         runs = λ q h b a. inv.runs q h b (less q h b a);
@@ -281,4 +283,4 @@ module _ {K : Type 0} (m : Site) (law : Lawful m) (G : ClassKind) (k : CostKind 
       open_found q h b (inr a) = (b, inr (inr a), under_refl k.order b)
 
       carry : (q : ℕ) (h : G.Element) (b : K) → NoDearer k (Known S Nothing O) q h b → NoDearer k (Known S X O') q h b
-      carry = no_dearer_found S Nothing O S X O' (λ q h b a. inl a) (λ q h b a. absurd a) (λ q h b a. open_found q h b (all q h b a))
+      carry = no_dearer_found m law G k reel aim cable S Nothing O S X O' (λ q h b a. inl a) (λ q h b a. absurd a) (λ q h b a. open_found q h b (all q h b a))

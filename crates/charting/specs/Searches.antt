@@ -9,13 +9,13 @@
 --     TooMany .. n e               e says that the reach is too large, and it has more than n pairs, or a class that is not held
 -- Of a search x, whose task, memory and numbers stand for those above:
 --     keys_at b x j                the key of the found pair at the place j
---     Named b x                    the slots name the found pairs
---     Lent x y                     y has the task and the memory of x
+--     Named b x                    the slots name the found pairs, which stand in the places, at most 4,096
+--     Lent x y                     y has the task and the memory of x, at the same lengths
 --     Rests .. x                   all lanes of the settled pairs are followed
 --     AtHand .. x i                so they are, and the pair after them is settled too and its lanes below the number i followed
 --     Comes_by .. x i v            v comes from the pair at hand by the lane number i, whose lanes below i are followed
 --     Meeting .. x v               v comes from it by some lane
---     Ended .. x                 the found pairs are a finished chart, and nothing was to be refused
+--     Ended .. x                   the found pairs are a finished chart, and nothing was to be refused
 --     Refused .. x e               e says that the reach is too large, and so it is for the places of x
 use Rattle.std.specs.Prelude.{◌≡◌, ℕ, ◌+◌, ◌*◌, ◌≤◌, List, length, take, Some, Option}
 use Rattle.kinds.specs.declared.refusal.Refusal.{Refusal}
