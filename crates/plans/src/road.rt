@@ -1,7 +1,8 @@
 // A roadmap as a map: a record and the memory of its lanes.
 ghost use Rattle.std.specs.Prelude.{◌≡◌, ◌<◌, cond, Some, None};
+ghost use Rattle.kinds.specs.Crossings.{other_way};
 ghost use Rattle.plans.specs.Rays.{crossing_of};
-ghost use Rattle.plans.specs.Roads.{few, sound, onward, backward, leg, two_at, link_at, net_of, road_site};
+ghost use Rattle.plans.specs.Roads.{few, sound, leg, two_at, link_at, net_of, road_site};
 ghost use Rattle.plans.specs.RoadsLemmas.{lawful_lanes, lawful_estimates};
 
 use crate::memory::Memory;
@@ -51,8 +52,7 @@ impl Link {
 
     // The lane from its first end to its second, crossing this.
     fn there(self, crossing: Crossing) -> Lane
-        requires { crossing ≡ crossing_of self.crossing }
-        ensures { result ≡ onward self }
+        ensures { result ≡ record { to = self.second; length = self.length; risk = self.risk; crossing = crossing } }
     {
         Lane {
             to: self.second,
@@ -62,10 +62,9 @@ impl Link {
         }
     }
 
-    // The lane from its second end back to its first.
+    // The lane from its second end back to its first, crossing this the other way.
     fn back(self, crossing: Crossing) -> Lane
-        requires { crossing ≡ crossing_of self.crossing }
-        ensures { result ≡ backward self }
+        ensures { result ≡ record { to = self.first; length = self.length; risk = self.risk; crossing = other_way crossing } }
     {
         Lane {
             to: self.first,
