@@ -10,7 +10,7 @@
 -- Of a search x, whose task, memory and numbers stand for those above:
 --     keys_at b x j                the key of the found pair at the place j
 --     Named b x                    the slots name the found pairs, which stand in the places, at most 4,096
---     Lent x y                     y has the task and the memory of x, at the same lengths
+--     Lent x y                     y has the task and the lent places of x, and as many places and queue places
 --     Rests .. x                   all lanes of the settled pairs are followed
 --     AtHand .. x i                so they are, and the pair after them is settled too and its lanes below the number i followed
 --     Comes_by .. x i v            v comes from the pair at hand by the lane number i, whose lanes below i are followed

@@ -39,9 +39,10 @@ fn named(heap: Global, text: &str) -> Result<String, Fail> {
 // The class of a text's crossings, or none where a word on the way is not held.
 fn class<C: Class>(heap: Global, text: &str) -> Result<Option<C>, Fail> {
     let all = crossings(heap, text)?;
-    Ok(all
-        .iter()
-        .try_fold(C::unit(), |class, crossing| class.after(*crossing)))
+    Ok(
+        all.iter()
+            .try_fold(C::unit(), |class, crossing| class.after(*crossing)),
+    )
 }
 
 #[test]
