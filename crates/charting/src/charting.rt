@@ -30,13 +30,13 @@ fn vacate<C: Class, K: Cost>(
     slots: &mut [u16],
     kept: u16,
 )
-    requires { kept ≤ length places.old }
     ensures kept { take kept places.new ≡ take kept places.old }
     ensures places { VacantFrom C.Class K.Cost places.new kept }
     ensures queue { VacantQueue K.Cost queue.new }
     ensures slots { VacantSlots slots.new }
 {
-    fill(&mut places[usize::from(kept)..], vacant_place());
+    let from = usize::from(kept).min(places.len());
+    fill(&mut places[from..], vacant_place());
     fill(queue, vacant_record());
     clear(slots);
 }

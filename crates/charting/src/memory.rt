@@ -21,6 +21,7 @@ use tables::queue::Queue;
 // A search as it stands: its task, the memory that is lent to it, and how many pairs are found and how many of these
 // settled. Found pairs have the first places, settled ones the first of these. The slots name the places of found pairs,
 // and those that are not settled yet wait in the queue.
+// That the memory has its sizes and the reel is a point is asked where a search starts; from there on what it holds says so.
 #[derive(Drop)]
 pub(crate) struct Search<'a, 'm, 'q, M, C, K> {
     pub(crate) task: &'a Task<'m, M>,

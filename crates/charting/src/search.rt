@@ -112,7 +112,7 @@ impl<M: Map, C: Class, K: Cost> Search<'_, '_, '_, M, C, K> {
         ensures lent { Lent self.old self.new }
         ensures expanded { MatchResult result (λ _. Rests M.Map.site C.Class K.Cost self.new × (self.new.settled ≡ self.old.settled + 1)) (Refused M.Map.site C.Class K.Cost self.old) }
     {
-        // no `for`: the map answers lane by lane
+        // no `for`: `next_lane` is the map's own call, which a map may answer faster than number by number
         let mut from = 0;
         while let Some(number) = self
             .task

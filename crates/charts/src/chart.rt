@@ -21,7 +21,7 @@ pub struct Chart {
 }
 
 // A chart as it is asked: its head, if one stands, and all its places. A point, and the list or buffer that is filled for it,
-// come with each call.
+// come with each call. The places are lent: there is no heap.
 #[derive(Clone, Copy)]
 pub struct Charted<'a, C, K> {
     pub head: Option<Chart>,

@@ -7,7 +7,7 @@ use kinds::class::Class;
 use kinds::cost::Cost;
 
 // The first place with the pair of the point and the class. These stand apart here and in all that asks for a pair,
-// since who asks has a point, and a class from the list there.
+// since who asks has a point, and a class from the list there; the key of the index that joins them lies in a crate above.
 #[tactic(auto, using(crate::proofs::Searches::finds_position))]
 pub fn first_place<C: Class, K: Cost>(pairs: &[Pair<C, K>], point: u16, class: &C) -> Option<usize>
     ensures { Finds C.Class pairs.now point class.now result }

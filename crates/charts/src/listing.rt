@@ -32,7 +32,7 @@ fn is_at<C: Class, K: Cost>(pair: &Pair<C, K>, point: u16) -> bool
     pair.point == point
 }
 
-// The class of a pair, with its cost.
+// The class of a pair, with its cost. A function and no `From`, which could not say by its name what is left out.
 fn price_of<C: Class, K: Cost>(pair: &Pair<C, K>) -> Priced<C, K>
     ensures { result ≡ priced pair.now }
 {
@@ -42,7 +42,7 @@ fn price_of<C: Class, K: Cost>(pair: &Pair<C, K>) -> Priced<C, K>
     }
 }
 
-// How many pairs are at the point.
+// How many pairs are at the point. The pairs and a point are two operands; a chart's pairs are one value, in `Charted`.
 fn count_at<C: Class, K: Cost>(pairs: &[Pair<C, K>], point: u16) -> usize
     ensures { result ≡ length (filter (is_at point) pairs.now) }
 {
@@ -54,6 +54,7 @@ fn write_at<C: Class, K: Cost>(pairs: &[Pair<C, K>], point: u16, list: &mut [Pri
     requires { length list.old ≡ length (priced_at point pairs.now) }
     ensures { list.new ≡ priced_at point pairs.now }
 {
+    // asked for the next by hand: of a zip over `iter_mut` a proof knows the length alone
     let mut rest = pairs.iter();
     for item in list.iter_mut() {
         if let Some(pair) = rest.find(|pair| is_at(pair, point)) {

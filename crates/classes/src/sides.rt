@@ -31,7 +31,7 @@ impl Sides {
         self.odd[place(ray)]
     }
 
-    // The sides of a list of crossings, however long.
+    // The sides of a list of crossings, however long. No `FromIterator`, whose name would not say that it multiplies.
     pub fn of(crossings: &[Crossing]) -> Sides
         ensures product { stored result.odd ≡ product sides crossings.now }
         ensures tells { Tells crossings.now (stored result.odd) }
@@ -85,7 +85,7 @@ impl Class for Sides {
         self.odd.cmp(&other.odd)
     }
 
-    // Written out: the step of a fold would know no bound of its sum.
+    // Written out: as a fold each step would have to carry a bound of its sum.
     fn digest(&self) -> u32 {
         let [one, two, three, four, five, six, seven] = self.odd;
         u32::from(one)

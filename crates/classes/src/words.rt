@@ -88,6 +88,7 @@ impl Class for Word {
     }
 
     fn after(&self, crossing: Crossing) -> Option<Word> {
+        // a match: with map_or, what crosses nothing would come before what crosses a ray, and nothing is shorter
         match Letter::of(crossing) {
             Some(more) => self.joined(more),
             None => Some(*self),

@@ -35,6 +35,7 @@ fn run(rt: &HostRuntime) -> anyhow::Result<()> {
     let [command, rest @ ..] = words.as_slice() else {
         return Ok(rt.print(USAGE)?);
     };
+    // a match, which shows what each command takes: a table of functions would want one signature for all
     match command.as_str() {
         "--help" => Ok(rt.print(USAGE)?),
         "name" => name::run(rt, only(rest)?),

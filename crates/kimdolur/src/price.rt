@@ -169,9 +169,7 @@ fn add_sum<C: Display, K: Display>(
             let number = request.lanes.get(*place).copied().unwrap_or(0);
             writeln!(out, "lane {number} is missing at point {reached}")?;
         }
-        Err(Unpriced::ClassNotHeld(count)) => {
-            writeln!(out, "the class after {count} lanes is not held")?;
-        }
+        Err(unheld) => writeln!(out, "{unheld}")?,
     }
     Ok(())
 }

@@ -36,7 +36,7 @@ impl Drawing<'_> {
         }
     }
 
-    // The posts that count.
+    // The posts that count. This and the place of a point are written again here, as plans keeps its own to itself.
     fn posts(&self) -> Take<Iter<'_, Post>> {
         self.grid.posts.iter().take(usize::from(self.grid.count))
     }

@@ -14,7 +14,7 @@ use kinds::map::Map;
 pub const BLOCKED: usize = 4_096;
 
 // Byte p of the memory is the risk of the point p, and byte 4096 + p is not 0 if it is blocked.
-// A point whose bytes lie past the end of the memory is blocked.
+// A point whose bytes lie past the end of the memory is blocked. How the bytes lie is fixed by the format.
 #[derive(Clone, Copy)]
 pub struct GridMap<B> {
     pub grid: Grid,
@@ -90,6 +90,7 @@ impl Grid {
         ensures { result ≡ eastward 1 (take self.now.count self.now.posts) spot.column spot.row }
     {
         let crossed = self.standing().iter().position(|post| is_over(*post, spot));
+        // a match: that the place is below 7 is known here, and not in a closure
         match crossed {
             Some(place) => forwards(place as u8 + 1),
             None => Crossing::None,

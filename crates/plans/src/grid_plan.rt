@@ -111,7 +111,8 @@ impl GridReader<'_> {
         Ok(next)
     }
 
-    // Reads what stands behind a B: the column and row of a point to be blocked. Apart from the next, which takes an operand more.
+    // Reads what stands behind a B: the column and row of a point to be blocked. Apart from the next, whose
+    // third operand must be there before the point is judged.
     fn read_block<'a>(&mut self, operands: &'a [u8]) -> Result<&'a [u8], Stop>
         ensures head { head_of self.new.grid ≡ head_of self.old.grid }
         ensures same_slice { self.new.memory.ghost_name ≡ self.old.memory.ghost_name }

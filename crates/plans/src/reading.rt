@@ -39,7 +39,8 @@ fn refusal(stop: Stop) -> Refusal
     }
 }
 
-// Reads a plan of either kind into blank memory.
+// Reads a plan of either kind into blank memory. That it is blank and the bytes are few are facts of the start, and not of
+// a value; memory and slots are lent one by one.
 fn read_kind(bytes: &[u8], memory: &mut [u8], slots: &mut [u16]) -> Result<Plan, Refusal>
     requires { (length bytes.now ≤ 65535) × ((memory.old ≡ blank) × (slots.old ≡ vacant)) }
     ensures said { MatchResult result (λ p. Accepted bytes.now p memory.new) (λ e. RefusedAs bytes.now e) }
@@ -92,7 +93,7 @@ fn read_guarded(bytes: &[u8], memory: &mut [u8], slots: &mut [u16]) -> Result<Pl
     Ok(plan)
 }
 
-// Whether a plan of so many bytes is too long to be read. A function of its own: it decides a refusal.
+// Whether a plan of so many bytes is too long to be read. Not one with the test of a cable: they would share only `>`.
 fn is_too_long(bytes: usize) -> bool
     ensures { Decides result (65535 < bytes) }
 {

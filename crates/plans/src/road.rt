@@ -25,6 +25,7 @@ pub struct RoadMap<B> {
 }
 
 // What a lane command says: the points at its ends, its length, its risk and its crossing byte.
+// The crossing stays a byte, since the memory may hold any, and one that stands for none makes it no lane.
 #[derive(Clone, Copy)]
 pub struct Link {
     pub first: u16,

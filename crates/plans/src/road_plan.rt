@@ -17,6 +17,7 @@ use crate::survey::{Surveys, survey_place};
 use tables::index::{clear, find, insert};
 
 // The operands of a lane command: two survey numbers, and what lies between.
+// The crossing stays the byte that is written.
 #[derive(Clone, Copy)]
 struct Join {
     first: u32,

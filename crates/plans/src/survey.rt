@@ -4,7 +4,7 @@ ghost use Rattle.plans.specs.Surveys.{number_at, survey_place, survey_at, number
 
 use tables::keys::Keys;
 
-// The first points of a roadmap, by their survey numbers.
+// The first points of a roadmap, by their survey numbers. How these lie in memory is fixed by the format, and so is their count.
 #[derive(Drop)]
 pub(crate) struct Surveys<'a> {
     pub(crate) memory: &'a [u8],

@@ -7,7 +7,7 @@ use kinds::class::Class;
 use kinds::cost::Cost;
 use kinds::lane::Lane;
 
-// Whether there is a place for one more pair. A function of its own: it decides whether the reach is too large.
+// Whether there is a place for one more pair. Not one with the test of a queue: they would share only `<`.
 pub fn has_room(found: u16, places: usize) -> bool
     ensures { Decides result (found < places) }
 {
@@ -22,7 +22,7 @@ pub fn following(number: u16) -> u16
     number.saturating_add(1)
 }
 
-// What it costs to go on by a lane from a pair.
+// What it costs to go on by a lane from a pair. Apart from the pricing of a run, which asks the class first.
 pub fn cost_on<C: Class, K: Cost>(from: &Pair<C, K>, lane: Lane) -> K
     ensures { result ≡ onward K.Cost.costs from.now.cost lane }
 {

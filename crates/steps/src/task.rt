@@ -60,10 +60,10 @@ impl<M: Map> Task<'_, M> {
     fn tail_at<K: Cost>(&self, point: u16) -> K
         ensures { result ≡ tail (M.Map.site self.now.map.now) K.Cost.costs self.now.asked.aim point }
     {
-        match self.asked.aim {
-            None => K::zero(),
-            Some(aim) => K::of_lane(self.map.estimate(point, aim), 0),
-        }
+        self.asked.aim.map_or(
+            K::zero(),
+            |aim| K::of_lane(self.map.estimate(point, aim), 0),
+        )
     }
 
     // The cost with the tail at the point.
@@ -82,7 +82,7 @@ impl<M: Map> Task<'_, M> {
     }
 }
 
-// Whether the cable number is too large. A function of its own: it decides a refusal.
+// Whether the cable number is too large. Not one with the test of a plan's length: they would share only `>`.
 fn is_too_long(cable: u32) -> bool
     ensures { Decides result (1000000 < cable) }
 {

@@ -34,6 +34,7 @@ pub fn find<K: Keys>(slots: &[u16], keys: &K, key: &K::Key) -> Option<Found>
     ensures first { LooksUp K.Keys.kind (K.Keys.at keys.now) slots.now (K.Keys.means key.now) result }
     ensures exact { Exact K.Keys.kind (K.Keys.at keys.now) slots.now (K.Keys.means key.now) result }
 {
+    // a for: it ends at a vacant slot and at a found key, each with its own answer
     for slot in way(keys.digest(key), slots.len()) {
         if is_vacant(slots[slot]) {
             return None;
