@@ -1,6 +1,7 @@
 -- The test of a pair, and the places that a search has passed.
-use Rattle.std.proofs.Common.{◌≡◌, ℕ, ◌<◌, ◌≤◌, true, eqb, List, length, Some, None, Option, Ordering, Less, Equal, Greater, sym, ap, ◌∙◌, inl, inr, arith}
+use Rattle.std.proofs.Common.{◌≡◌, ℕ, ◌<◌, ◌≤◌, true, eqb, List, length, Some, None, Option, sym, ap, ◌∙◌, inl, inr, arith}
 use Rattle.std.specs.Ordering.{is_eq}
+use Rattle.std.specs.Cmp.{Equal-is}
 use Rattle.std.specs.List.{position, position_or_len}
 use Rattle.std.proofs.lemmas.Bool.{cases_order, cases_Bool, eqb-true, eq-eqb, false≢true}
 use Rattle.std.proofs.lemmas.List.Quantifiers.{position-Some}
@@ -10,17 +11,11 @@ use Rattle.charts.specs.declared.chart.Pair.{Pair}
 use Rattle.charts.specs.Finding.{IsPair, is_pair, matches, Nowhere, FirstAt, Finds}
 use Rattle.charts.proofs.Stands.{stands_some}
 
--- an answer that passes the test is `Equal`
-pub equal_of_is_eq : (r : Ordering) → is_eq r ≡ true → r ≡ Equal
-equal_of_is_eq Less e = absurd (false≢true e)
-equal_of_is_eq Equal e = λ i. Equal
-equal_of_is_eq Greater e = absurd (false≢true e)
-
 module _ {C K : Type 0} (b : Classes C) (p : ℕ) (g : b.kind.Element) where
   -- the test passes only the pair
   pub pair_passes : (x : Pair C K) → is_pair b p g x ≡ true → IsPair b p g x
   pair_passes x e = elim (cases_Bool (eqb x.point p)) [
-    | inl t ↦ (eqb-true x.point p t, b.kind.order.same (b.element x.class) g (equal_of_is_eq (b.kind.order.cmp (b.element x.class) g) (simp t at e)))
+    | inl t ↦ (eqb-true x.point p t, b.kind.order.same (b.element x.class) g ((Equal-is (b.kind.order.cmp (b.element x.class) g)).0 (simp t at e)))
     | inr t ↦ absurd (false≢true (simp t at e))
   ]
 
