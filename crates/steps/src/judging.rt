@@ -19,7 +19,7 @@ pub fn has_sizes(places: usize, queue: usize, slots: usize) -> bool
 }
 
 // What was found, or that the reach is too large where it is missing.
-pub fn answered<T>(found: Option<T>) -> Result<T, Refusal>
+pub fn answered<T: Copy>(found: Option<T>) -> Result<T, Refusal>
     ensures { result ≡ or_too_large found }
 {
     found.ok_or(Refusal::ReachTooLarge)
