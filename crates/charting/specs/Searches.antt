@@ -13,7 +13,7 @@
 --     Lent x y                     y has the task and the lent places of x, and as many places and queue places
 --     Rests .. x                   all lanes of the settled pairs are followed
 --     AtHand .. x i                so they are, and the pair after them is settled too and its lanes below the number i followed
---     Comes_by .. x i v            v comes from the pair at hand by the lane number i, whose lanes below i are followed
+--     ComesBy .. x i v            v comes from the pair at hand by the lane number i, whose lanes below i are followed
 --     Meeting .. x v               v comes from it by some lane
 --     Ended .. x                   the found pairs are a finished chart, and nothing was to be refused
 --     Refused .. x e               e says that the reach is too large, and so it is for the places of x
@@ -101,11 +101,11 @@ module _ {M C K : Type 0} where
     abbrev pub AtHand : ℕ → Type 0
     AtHand i = Searching (site x.task.now.map.now) b c x.task.now.asked x.places.now x.queue.now x.slots.now x.settled (x.settled + 1) i x.found
 
-    abbrev pub Comes_by : ℕ → Pair C K → Type 0
-    Comes_by i v = Follows (site x.task.now.map.now) b c x.task.now.asked x.places.now x.queue.now x.slots.now x.settled i x.found v
+    abbrev pub ComesBy : ℕ → Pair C K → Type 0
+    ComesBy i v = Follows (site x.task.now.map.now) b c x.task.now.asked x.places.now x.queue.now x.slots.now x.settled i x.found v
 
     abbrev pub Meeting : Pair C K → Type 0
-    Meeting v = (i : ℕ) × Comes_by i v
+    Meeting v = (i : ℕ) × ComesBy i v
 
     abbrev pub Ended : Type 0
     Ended = Complete (site x.task.now.map.now) b c x.task.now.asked x.places.now x.found

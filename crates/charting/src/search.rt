@@ -2,7 +2,7 @@
 ghost use Rattle.std.specs.Prelude.{◌≡◌, ℕ, ◌+◌, ◌<◌, length, replicate, MatchBool, MatchResult};
 ghost use Rattle.tables.specs.Queues.{waiting};
 ghost use Rattle.charting.specs.Charts.{Fits};
-ghost use Rattle.charting.specs.Searches.{Sized, Complete, Lent, Rests, AtHand, Comes_by, Meeting, Ended, Refused, TooMany};
+ghost use Rattle.charting.specs.Searches.{Sized, Complete, Lent, Rests, AtHand, ComesBy, Meeting, Ended, Refused, TooMany};
 
 use crate::memory::Search;
 use charts::chart::Pair;
@@ -66,7 +66,7 @@ impl<M: Map, C: Class, K: Cost> Search<'_, '_, '_, M, C, K> {
         requires { Meeting M.Map.site C.Class K.Cost self.old pair }
         ensures lent { Lent self.old self.new }
         ensures settled { self.new.settled ≡ self.old.settled }
-        ensures met { MatchResult result (λ _. (i : ℕ) → Comes_by M.Map.site C.Class K.Cost self.old i pair → AtHand M.Map.site C.Class K.Cost self.new (i + 1)) (Refused M.Map.site C.Class K.Cost self.old) }
+        ensures met { MatchResult result (λ _. (i : ℕ) → ComesBy M.Map.site C.Class K.Cost self.old i pair → AtHand M.Map.site C.Class K.Cost self.new (i + 1)) (Refused M.Map.site C.Class K.Cost self.old) }
     {
         let bound = self.task.bound_at(pair.point, pair.cost);
         match self.look_up(pair.point, pair.class) {
