@@ -101,8 +101,10 @@ impl Class for Sides {
 // Seven digits, ray 1 first: 1 if the ray was crossed an odd number of times.
 impl fmt::Display for Sides {
     fn fmt<W: fmt::Write>(&self, f: &mut fmt::Formatter<W>) -> fmt::Result {
-        for odd in self.odd {
-            f.write_char(if odd { '1' } else { '0' })?;
+        for number in 1..8u8 {
+            if let Ok(ray) = Ray::try_from(number) {
+                f.write_char(if self.is_odd(ray) { '1' } else { '0' })?;
+            }
         }
         Ok(())
     }

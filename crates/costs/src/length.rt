@@ -16,6 +16,6 @@ pub struct Length {
 // As a plain number, in centimetres.
 impl fmt::Display for Length {
     fn fmt<W: fmt::Write>(&self, f: &mut fmt::Formatter<W>) -> fmt::Result {
-        self.centimetres.fmt(f)
+        write!(f, "{}", self.centimetres)
     }
 }

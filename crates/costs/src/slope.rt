@@ -51,6 +51,6 @@ impl Cost for Slope {
 // As a plain number.
 impl fmt::Display for Slope {
     fn fmt<W: fmt::Write>(&self, f: &mut fmt::Formatter<W>) -> fmt::Result {
-        self.grade.fmt(f)
+        write!(f, "{}", self.grade)
     }
 }

@@ -40,7 +40,7 @@ module _ {M C K : Type 0} (a : Maps M) (b : Classes C) (c : Costs K) (m : M) (w 
   joined : (l : Lane) → class_of b.kind (ls ++ (l ∷ [])) ≡ b.kind.mul (b.element from.class) (crossed b.kind l.crossing)
   joined l = class_push b.kind ls l ∙ ap (λ g. b.kind.mul g (crossed b.kind l.crossing)) (sym h.2)
 
-  at_more : (to : Along C K) → Stepped a b c m from (get_or ns i d) (Ok to) → (ks : List Lane) × At a b c m p (take (i + 1) ns) ks to
+  pub at_more : (to : Along C K) → Stepped a b c m from (get_or ns i d) (Ok to) → (ks : List Lane) × At a b c m p (take (i + 1) ns) ks to
   at_more to (l, e, f, g, k) =
       let class = g ∙ sym (joined l) in (
         ls ++ (l ∷ []),
@@ -52,10 +52,10 @@ module _ {M C K : Type 0} (a : Maps M) (b : Classes C) (c : Costs K) (m : M) (w 
         ),
       )
 
-  missing_lane : Stepped a b c m from (get_or ns i d) (Err NoLane) → Prices a b c m p ns (Err (LaneMissing i))
+  pub missing_lane : Stepped a b c m from (get_or ns i d) (Err NoLane) → Prices a b c m p ns (Err (LaneMissing i))
   missing_lane e = (q, (ls, from.end, h.0, h.1, λ x. subst (λ n. (a.site m).lane from.end n ≡ None) (get_or_default ns i d x q) e))
 
-  class_not_held : Stepped a b c m from (get_or ns i d) (Err NotHeld) → Prices a b c m p ns (Err (ClassNotHeld (i + 1)))
+  pub class_not_held : Stepped a b c m from (get_or ns i d) (Err NotHeld) → Prices a b c m p ns (Err (ClassNotHeld (i + 1)))
   class_not_held (l, e, f) = (omega arith, (ls, l, l.to, more l e, h.1, λ k. f (subst b.kind.Held (joined l) k)))
 
   halted : (h : Halt) → Stepped a b c m from (get_or ns i d) (Err h) → Prices a b c m p ns (Err (halted_at h i))

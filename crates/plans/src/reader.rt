@@ -31,8 +31,11 @@ fn step<'a, R: Reader>(reader: &mut R, left: &'a [u8]) -> Result<Option<&'a [u8]
     ensures said { Stepped (R.head reader.old) (λ cs. R.holds cs reader.old) (λ cs. R.holds cs reader.new) left.now result }
 {
     match left {
-        [b'E'] => Ok(None),
-        [b'E', ..] => Err(AFTER_END),
+        [b'E', rest @ ..] => if rest.is_empty() {
+            Ok(None)
+        } else {
+            Err(AFTER_END)
+        },
         [letter, operands @ ..] => Ok(Some(reader.take(*letter, operands)?)),
         [] => Err(Fault::CutShort.into()),
     }

@@ -1,5 +1,5 @@
 // A roadmap as a map: a record and the memory of its lanes.
-ghost use Rattle.std.specs.Prelude.{◌≡◌, ◌<◌, cond, Some, None};
+ghost use Rattle.std.specs.Prelude.{◌≡◌, ◌<◌, cond, Some, None, is_some};
 ghost use Rattle.kinds.specs.Crossings.{other_way};
 ghost use Rattle.plans.specs.Rays.{crossing_of};
 ghost use Rattle.plans.specs.Roads.{few, sound, leg, two_at, link_at, net_of, road_site};
@@ -74,6 +74,17 @@ impl Link {
         }
     }
 
+    // Whether the lane along it starts at the point: the lane onward for the number 0, else the lane back.
+    fn starts_at(self, point: u16, number: u16) -> bool
+        ensures { result ≡ is_some (leg self point number) }
+    {
+        if number == 0 {
+            point == self.first
+        } else {
+            point == self.second
+        }
+    }
+
     // The lane along it that starts at the point: onward for the number 0, else back.
     fn leg(self, point: u16, number: u16, crossing: Crossing) -> Option<Lane>
         requires { crossing ≡ crossing_of self.crossing }
@@ -144,6 +155,10 @@ impl<B: Memory> Map for RoadMap<B> {
             return None;
         }
         let link = self.link_at(number / 2);
+        // first, since of most lanes a point is no end: their crossings need not be read
+        if !link.starts_at(point, number % 2) {
+            return None;
+        }
         let crossing = link.crossing_on(self.road.point_count())?;
         link.leg(point, number % 2, crossing)
     }

@@ -2,7 +2,8 @@
 use Rattle.std.proofs.Common.{◌≡◌, ℕ, ◌+◌, List, get_or, Some, None, Option, sym, ap, ◌∙◌, subst, inl, inr, arith}
 use Rattle.std.proofs.lemmas.Bool.{cases_lt}
 use Rattle.tables.specs.Probes.{KeyKind, on_way}
-use Rattle.tables.specs.Indexes.{Absent, Indexed, LooksUp}
+use Rattle.tables.specs.declared.index.Found.{Found}
+use Rattle.tables.specs.Indexes.{Absent, Indexed, LooksUp, Exact}
 
 -- a place that a passed slot names does not have the key
 pub not_passed : {M : Type 0} (at : ℕ → Option M) (m : M) (k k' : ℕ) → at k ≡ Some m → k' + 1 ≡ k + 1 → (at k' ≡ Some m → ⊥) → ⊥
@@ -28,3 +29,8 @@ absent_from_none K at slots m ix (j, passed, ends) i has =
                 ]
           ]
     ]
+
+-- what is answered first on the way is exact in a well-kept index
+pub exact_from_first : (K : KeyKind) (at : ℕ → Option K.Meaning) (slots : List ℕ) (m : K.Meaning) (r : Option Found) → LooksUp K at slots m r → Exact K at slots m r
+exact_from_first K at slots m None first ix = absent_from_none K at slots m ix first
+exact_from_first K at slots m (Some f) (j, passed, lt, here, named, has) ix = (named, has)

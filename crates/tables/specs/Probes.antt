@@ -3,11 +3,7 @@
 --     way_at n h j        the slot at step j of the way of the hash h, over n slots
 --     on_way slots h j    the entry of that slot
 --     Met slots h i j     the slot i is at step j of the way of the hash h, and no slot before it is vacant
---     Walks n h s         s goes from the own slot of the hash h, over n slots, to the last, and then from the first to the one before
-use Rattle.std.specs.Prelude.{◌≡◌, ℕ, ◌+◌, ◌%◌, ◌<◌, false, List, length, max, ◌≢◌, slice_index}
-use Rattle.std.specs.declared.iter.Chain.{Chain}
-use Rattle.std.specs.declared.ops.Range.{Range}
-use Rattle.std.specs.Iterator.Adapters.{chain_first, chain_second, chain_first_done, chain_second_done}
+use Rattle.std.specs.Prelude.{◌≡◌, ℕ, ◌+◌, ◌%◌, ◌<◌, List, length, ◌≢◌, slice_index}
 
 pub record KeyKind : Type 1 where
   pub Meaning : Type 0
@@ -23,8 +19,3 @@ pub record Met (slots : List ℕ) (h i j : ℕ) : Type 0 where
   pub within : j < length slots
   pub here : i ≡ way_at (length slots) h j
   pub before : (m : ℕ) → m < j → on_way slots h m ≢ 0
-
-pub record Walks (n h : ℕ) (s : Chain (Range ℕ) (Range ℕ)) : Type 0 where
-  pub first : chain_first s ≡ record { start = h % max n 1; end = n }
-  pub second : chain_second s ≡ record { start = 0; end = h % max n 1 }
-  pub fresh : (chain_first_done s ≡ false) × (chain_second_done s ≡ false)

@@ -1,13 +1,10 @@
 // A hash index over lent slots, by linear probing: an entry of 0 is vacant, and k + 1 names the place k.
 // Entries stay in their slots, so a caller may keep a slot's number.
 // Slots and keys come with each call, and not as one value: the slots are lent, and the keys change between calls.
-ghost use Rattle.std.specs.Prelude.{◌≡◌, ◌+◌, ◌-◌, ◌%◌, ◌<◌, length, replicate, Decides, MatchOption};
-ghost use Rattle.tables.specs.Probes.{Walks};
+ghost use Rattle.std.specs.Prelude.{◌≡◌, ◌+◌, ◌-◌, ◌%◌, ◌<◌, length, max, replicate, Decides, MatchOption};
 ghost use Rattle.tables.specs.Indexes.{Reads, LooksUp, Exact, Opens, Inserts, Keeps, Rewrites, Lasts};
 
 use crate::keys::Keys;
-use std::iter::Chain;
-use std::ops::Range;
 
 #[cfg(test)]
 mod tests;
@@ -34,16 +31,7 @@ pub fn find<K: Keys>(slots: &[u16], keys: &K, key: &K::Key) -> Option<Found>
     ensures first { LooksUp K.Keys.kind (K.Keys.at keys.now) slots.now (K.Keys.means key.now) result }
     ensures exact { Exact K.Keys.kind (K.Keys.at keys.now) slots.now (K.Keys.means key.now) result }
 {
-    // a for: it ends at a vacant slot and at a found key, each with its own answer
-    for slot in way(keys.digest(key), slots.len()) {
-        if is_vacant(slots[slot]) {
-            return None;
-        }
-        if let Some(found) = read_slot(slot, slots[slot], keys, key) {
-            return Some(found);
-        }
-    }
-    None
+    first_on_way(slots, keys, key)
 }
 
 // Lets the first vacant slot on the key's way name the place, and answers that slot. No other slot changes.
@@ -98,20 +86,55 @@ fn enter(slots: &mut [u16], hash: u32, place: u16) -> Result<usize, NotEntered>
     Ok(vacant)
 }
 
+// The first slot on the key's way that names the place with the key, unless a vacant one comes before.
+// Apart from `find`, whose other clause follows from this one.
+fn first_on_way<K: Keys>(slots: &[u16], keys: &K, key: &K::Key) -> Option<Found>
+    ensures { LooksUp K.Keys.kind (K.Keys.at keys.now) slots.now (K.Keys.means key.now) result }
+{
+    let len = slots.len();
+    let mut slot = own_slot(keys.digest(key), len);
+    // a for: it ends at a vacant slot and at a found key, each with its own answer
+    for _step in 0..len {
+        if is_vacant(slots[slot]) {
+            return None;
+        }
+        if let Some(found) = read_slot(slot, slots[slot], keys, key) {
+            return Some(found);
+        }
+        slot = next_slot(slot, len);
+    }
+    None
+}
+
 // The first vacant slot on the way of a hash.
 fn first_vacant(slots: &[u16], hash: u32) -> Option<usize>
     ensures { Opens slots.now hash result }
 {
-    way(hash, slots.len()).find(|slot| is_vacant(slots[*slot]))
+    let mut slot = own_slot(hash, slots.len());
+    for _step in 0..slots.len() {
+        if is_vacant(slots[slot]) {
+            return Some(slot);
+        }
+        slot = next_slot(slot, slots.len());
+    }
+    None
 }
 
-// The slots on the way of a hash, each once: from its own slot to the last, and then from the first on.
-fn way(hash: u32, len: usize) -> Chain<Range<usize>, Range<usize>>
-    ensures { Walks len hash result }
+// The slot at which the way of a hash starts, if there are any.
+fn own_slot(hash: u32, len: usize) -> usize
+    ensures { result ≡ hash % max len 1 }
 {
     // a cast, since `usize` has no `From<u32>`
-    let own = hash as usize % len.max(1);
-    (own..len).chain(0..own)
+    hash as usize % len.max(1)
+}
+
+// The slot after one. The first comes after the last.
+fn next_slot(slot: usize, len: usize) -> usize
+    requires { slot < len }
+    ensures { result ≡ (slot + 1) % len }
+{
+    let next = slot + 1;
+    if next == len { 0 } else { next }
 }
 
 // The slot with the place that its entry names, if that place has the key.

@@ -1,14 +1,20 @@
-use Rattle.std.proofs.Common.{◌≡◌, ◌<◌, length, get_or, rules, tests}
-use Rattle.std.proofs.lemmas.Iterator.{first_from_find}
-use Rattle.std.proofs.lemmas.Iterator.Adapters.{serves_from_places}
-use Rattle.tables.proofs.Probing.{walk_yields, slots_within, opens_first}
+use Rattle.std.proofs.Common.{◌≡◌, ◌<◌, length, get_or, subst, arith, below_more}
+use Rattle.std.proofs.lemmas.Bool.{false≢true}
+use Rattle.tables.specs.Probes.{on_way}
+use Rattle.tables.proofs.Probing.{way_steps, taken_all}
 use Rattle.tables.proofs.index.first_vacant.Goals as goal
 
-pub find-requires-clause-callable : goal.find-requires-clause-callable
-find-requires-clause-callable c =
-    serves_from_places (walk_yields c.way.ensures) (λ x q k. search (rules, tests)) (λ x k lt e. let here : x < length c.args.slots.now = slots_within (length c.args.slots.now) c.args.hash k x lt e in search rules)
+pub loop-step-preserved : goal.loop-step-preserved
+loop-step-preserved c =
+    let slots = c.args.slots.now in
+    let some : 0 < length slots = search arith in
+    let at = c.loop-step.invariant.0 some in (
+      λ lt. way_steps (length slots) c.args.hash c.loop-step._step _ _ lt at.1 c.next_slot-slot.ensures,
+      below_more (λ q. on_way slots c.args.hash q ≡ 0 → ⊥) c.loop-step._step c.loop-step.invariant.1
+          (subst (λ i. get_or slots i 0 ≡ 0 → ⊥) at.1 (λ z. false≢true (c.if-is_vacant.ensures.1 z))),
+    )
 
 pub returns : goal.returns
 returns c =
     let slots = c.args.slots.now in
-    opens_first slots c.args.hash c.find.result (first_from_find _ _ c.find.result (λ i. get_or slots i 0 ≡ 0) (λ i. get_or slots i 0 ≡ 0 → ⊥) c.find.ensures.ran (walk_yields c.way.ensures) (λ x q k. search (rules, tests)) (λ x q k. search (rules, tests)))
+    taken_all slots c.args.hash (λ q p. c.loop-step.invariant.1 q (search arith))
