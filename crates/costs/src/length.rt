@@ -13,7 +13,7 @@ pub struct Length {
     ghost top: { centimetres ≤ most },
 }
 
-// As a plain number, in centimetres.
+// As a plain number, in centimetres, whatever width is asked for.
 impl fmt::Display for Length {
     fn fmt<W: fmt::Write>(&self, f: &mut fmt::Formatter<W>) -> fmt::Result {
         write!(f, "{}", self.centimetres)

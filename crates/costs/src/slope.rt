@@ -48,7 +48,7 @@ impl Cost for Slope {
     }
 }
 
-// As a plain number.
+// As a plain number, whatever width is asked for.
 impl fmt::Display for Slope {
     fn fmt<W: fmt::Write>(&self, f: &mut fmt::Formatter<W>) -> fmt::Result {
         write!(f, "{}", self.grade)

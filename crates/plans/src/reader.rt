@@ -31,6 +31,7 @@ fn step<'a, R: Reader>(reader: &mut R, left: &'a [u8]) -> Result<Option<&'a [u8]
     ensures said { Stepped (R.head reader.old) (λ cs. R.holds cs reader.old) (λ cs. R.holds cs reader.new) left.now result }
 {
     match left {
+        // the letter first: told by two patterns, the end costs each command a test more
         [b'E', rest @ ..] => if rest.is_empty() {
             Ok(None)
         } else {

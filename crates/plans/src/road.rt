@@ -155,7 +155,7 @@ impl<B: Memory> Map for RoadMap<B> {
             return None;
         }
         let link = self.link_at(number / 2);
-        // first, since of most lanes a point is no end: their crossings need not be read
+        // asked first: a point is no end of most lanes, whose crossings need not be read
         if !link.starts_at(point, number % 2) {
             return None;
         }
