@@ -1,7 +1,8 @@
 -- The way of a hash, step by step, and what a whole turn meets.
-use Rattle.std.proofs.Common.{◌≡◌, ℕ, ◌+◌, ◌%◌, ◌<◌, List, length, get_or, ap, ◌∙◌, arith}
+use Rattle.std.proofs.Common.{◌≡◌, ℕ, ◌+◌, ◌%◌, ◌<◌, List, length, get_or, Some, None, Option, ap, ◌∙◌, arith}
 use native.Mathlib.Nat.{mod-add-mod}
 use Rattle.tables.specs.Probes.{way_at, on_way}
+use Rattle.tables.specs.Indexes.{Meets, Opens}
 use Rattle.tables.proofs.Ways.{way_within, way_comes}
 
 -- each step of the way goes on by one slot
@@ -17,3 +18,8 @@ pub taken_all : (slots : List ℕ) (h : ℕ) → ((q : ℕ) → q < length slots
 taken_all slots h taken i p vacant =
     let (j, q, e) = way_comes (length slots) h i p in
     taken j q (ap (λ a. get_or slots a 0) e ∙ vacant)
+
+-- the first vacant slot on the way is one wherever there is one
+pub opens_meets : (slots : List ℕ) (h : ℕ) (r : Option ℕ) → Meets slots h r → Opens slots h r
+opens_meets slots h None (j, taken, turn) = taken_all slots h (λ q lt. taken q (omega arith))
+opens_meets slots h (Some i) met = met

@@ -10,6 +10,8 @@
 --     LooksUp K at slots m r    r is the first slot on the way of m that names a place whose key means m, or none if a vacant slot or a whole turn comes first
 --     Answers at slots m r      r is a slot and the place that it names, whose key means m, or none and no slot names such a place
 --     Exact K at slots m r      r answers so if the index is well kept
+--     Taken slots h j           the first j slots on the way of the hash h are taken
+--     Meets slots h r           r is the first vacant slot on the way of the hash h, or none and a whole turn is taken
 --     Opens slots h r           r is the first vacant slot on the way of the hash h, or none and no slot is vacant
 --     Inserts h k from to r     the slots end as `to`: the first vacant slot on the way of h, which r is, names the place k;
 --                               or nothing is written, since no slot is vacant, or since an entry, of 16 bits, cannot name k
@@ -66,6 +68,13 @@ Answers at slots m (Some f) = Names slots f.slot f.place × (at f.place ≡ Some
 
 abbrev pub Exact : (K : KeyKind) → (ℕ → Option K.Meaning) → List ℕ → K.Meaning → Option Found → Type 0
 Exact K at slots m r = Indexed K at slots → Answers at slots m r
+
+abbrev pub Taken : List ℕ → ℕ → ℕ → Type 0
+Taken slots h j = (q : ℕ) → q < j → on_way slots h q ≢ 0
+
+abbrev pub Meets : List ℕ → ℕ → Option ℕ → Type 0
+Meets slots h None = (j : ℕ) × Taken slots h j × (j ≡ length slots)
+Meets slots h (Some i) = (j : ℕ) × Met slots h i j × (slice_index slots i ≡ 0)
 
 abbrev pub Opens : List ℕ → ℕ → Option ℕ → Type 0
 Opens slots h None = (i : ℕ) → i < length slots → slice_index slots i ≢ 0

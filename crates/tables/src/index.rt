@@ -1,8 +1,8 @@
 // A hash index over lent slots, by linear probing: an entry of 0 is vacant, and k + 1 names the place k.
 // Entries stay in their slots, so a caller may keep a slot's number.
 // Slots and keys come with each call, and not as one value: the slots are lent, and the keys change between calls.
-ghost use Rattle.std.specs.Prelude.{◌≡◌, ◌+◌, ◌-◌, ◌%◌, ◌<◌, length, max, replicate, Decides, MatchOption};
-ghost use Rattle.tables.specs.Indexes.{Reads, LooksUp, Exact, Opens, Inserts, Keeps, Rewrites, Lasts};
+ghost use Rattle.std.specs.Prelude.{◌≡◌, ◌+◌, ◌%◌, ◌<◌, length, max, replicate, Decides, MatchOption};
+ghost use Rattle.tables.specs.Indexes.{Reads, LooksUp, Exact, Meets, Opens, Inserts, Keeps, Rewrites, Lasts};
 
 use crate::keys::Keys;
 
@@ -27,6 +27,7 @@ pub enum NotEntered {
 
 // The slot that names the place with the key, and that place.
 // Whatever the slots hold, it is the first such slot on the key's way, unless a vacant one comes before.
+#[tactic(auto, using(crate::proofs::Finding::exact_from_first))]
 pub fn find<K: Keys>(slots: &[u16], keys: &K, key: &K::Key) -> Option<Found>
     ensures first { LooksUp K.Keys.kind (K.Keys.at keys.now) slots.now (K.Keys.means key.now) result }
     ensures exact { Exact K.Keys.kind (K.Keys.at keys.now) slots.now (K.Keys.means key.now) result }
@@ -106,11 +107,20 @@ fn first_on_way<K: Keys>(slots: &[u16], keys: &K, key: &K::Key) -> Option<Found>
     None
 }
 
-// The first vacant slot on the way of a hash.
+// The first vacant slot on the way of a hash, if there is a vacant one at all.
+#[tactic(auto, using(crate::proofs::Probing::opens_meets))]
 fn first_vacant(slots: &[u16], hash: u32) -> Option<usize>
     ensures { Opens slots.now hash result }
 {
+    vacant_on_way(slots, hash)
+}
+
+// The same, of the way alone: the prover finds this where the loop ends, and the other of it.
+fn vacant_on_way(slots: &[u16], hash: u32) -> Option<usize>
+    ensures { Meets slots.now hash result }
+{
     let mut slot = own_slot(hash, slots.len());
+    // a for, and no `find` over a chain of two ranges, by which a probe takes a third more
     for _step in 0..slots.len() {
         if is_vacant(slots[slot]) {
             return Some(slot);

@@ -1,8 +1,8 @@
 use Rattle.std.proofs.Common.{◌≡◌, ◌<◌, length, get_or, subst, arith, below_more}
 use Rattle.std.proofs.lemmas.Bool.{false≢true}
 use Rattle.tables.specs.Probes.{on_way}
-use Rattle.tables.proofs.Probing.{way_steps, taken_all}
-use Rattle.tables.proofs.index.first_vacant.Goals as goal
+use Rattle.tables.proofs.Probing.{way_steps}
+use Rattle.tables.proofs.index.vacant_on_way.Goals as goal
 
 pub loop-step-preserved : goal.loop-step-preserved
 loop-step-preserved c =
@@ -13,8 +13,3 @@ loop-step-preserved c =
       below_more (λ q. on_way slots c.args.hash q ≡ 0 → ⊥) c.loop-step._step c.loop-step.invariant.1
           (subst (λ i. get_or slots i 0 ≡ 0 → ⊥) at.1 (λ z. false≢true (c.if-is_vacant.ensures.1 z))),
     )
-
-pub returns : goal.returns
-returns c =
-    let slots = c.args.slots.now in
-    taken_all slots c.args.hash (λ q p. c.loop-step.invariant.1 q (search arith))
